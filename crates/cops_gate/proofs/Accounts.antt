@@ -37,12 +37,12 @@ met_parts j [] ys met = inr met
 met_parts j (x ∷ xs) ys (inl here) = inl (inl here)
 met_parts j (x ∷ xs) ys (inr there) = ⊎_elim (λ l. inl (inr l)) inr (met_parts j xs ys there)
 
-met_left : (j : ℕ) (xs ys : List ℕ) → Met j xs → Met j (xs ++ ys)
+pub met_left : (j : ℕ) (xs ys : List ℕ) → Met j xs → Met j (xs ++ ys)
 met_left j [] ys met = absurd met
 met_left j (x ∷ xs) ys (inl here) = inl here
 met_left j (x ∷ xs) ys (inr there) = inr (met_left j xs ys there)
 
-met_right : (j : ℕ) (xs ys : List ℕ) → Met j ys → Met j (xs ++ ys)
+pub met_right : (j : ℕ) (xs ys : List ℕ) → Met j ys → Met j (xs ++ ys)
 met_right j [] ys met = met
 met_right j (x ∷ xs) ys met = inr (met_right j xs ys met)
 

@@ -24,7 +24,7 @@ use Rattle.cops_gate.specs.Seats.{AreAtRest, AreMadeBy, ClosesWith, Known, Origi
 use Rattle.cops_gate.proofs.Accounts.{all_by_it, all_seen, counted_again, counted_end, counted_fork, counted_more, covered_again, covered_end, covered_fork, covered_more, fork_joined_none, met_parts}
 use Rattle.cops_gate.proofs.Ending.{all_joined, all_weaker}
 use Rattle.cops_gate.proofs.Histories.{starts_on, turns_other, turns_mine, node_other, node_mine, node_parts, none_before, placed_on}
-use Rattle.cops_gate.proofs.Words.{apart_words, ticket_else, ticket_here, ticket_serving, serving_ticket, serving_else, serving_here, true_not_false, waits_not_holds, idle_not_holds, waits_same, holds_same}
+use Rattle.cops_gate.proofs.Words.{apart_words, word_there, ticket_else, ticket_here, ticket_serving, serving_ticket, serving_else, serving_here, true_not_false, waits_not_holds, idle_not_holds, waits_same, holds_same}
 
 -- lists read by `get_elem?`
 module _ {A : Type 0} where
@@ -281,7 +281,7 @@ module _ {M C R P : Type 0} (turns : M → ℕ → ℕ → C → R → M → Typ
         seated = k.seated;
         joined = λ j met. ⊎_elim (λ this. of_w j (inl this)) (λ earlier. ⊎_elim (λ by_w. of_w j (inr by_w)) (λ by_v. k.joined j by_v) (met_parts j w.account.joined v.account.joined earlier)) met;
         queues = k.queues;
-        spent = k.spent;
+        spent = λ n met. ⊎_elim (λ by_w. o.spent n by_w) (λ by_v. k.spent n by_v) (met_parts n w.spent v.spent met);
       } in record {
         log = r.log;
         placed = r.placed;
@@ -719,6 +719,11 @@ module _ {M C R P : Type 0} (turns : M → ℕ → ℕ → C → R → M → Typ
       × (IsComplete account → (log ≡ seen) × AreMadeBy (number ∷ account.joined) log)
       × ((n x : ℕ) (first h : M) → get_elem? from.states n ≡ some first → get_or ws (16 * n) 0 ≡ x → get_or ws (16 * n + 1) 0 ≡ x → get_elem? hs n ≡ some h
       → Leads turns first (turns_at n log) h × (place h ≡ place first) × (Met n spent → from.ticket + length (turns_at n log) ≡ 2 ^ 62))
+      × ((n : ℕ) → Met n spent → n < length from.states)
+
+  -- a node has words if one of them isn't 0
+  met_there : (s : St) (r : Rule s) (n : ℕ) → ticket_at s.words n ≡ 2 ^ 62 → n < length from.states
+  met_there s r n full = let within : 16 * n < length s.words = word_there s.words (16 * n) (2 ^ 62) full (omega arith) in let wide : length s.words ≡ 16 * length from.states = r.wide in omega arith
 
   pub closes : (id : ℕ) (v : V) (ws : List ℕ) (hs : List M) → v.numbered ≡ true → Final (Seen Rule id v) ws hs → Left v.seen v.number v.spent v.account ws hs
   closes id v ws hs numbered final =
@@ -750,6 +755,7 @@ module _ {M C R P : Type 0} (turns : M → ℕ → ℕ → C → R → M → Typ
             let q : (serving_at s.words n ≡ serving_at s.words n) × (serving_at s.words n < ticket_at s.words n) × (turns_at n r.log ≡ turns_at n o.1.seen) = subst (HoldsItsTicket s.words r.log o.1.seen) o.3 (r.each_seat o.0 o.1 o.2).queues in
             let below : serving_at s.words n < ticket_at s.words n = q.1 in absurd (omega arith))
             p.slot),
+        (λ n met. met_there s r n (k.spent n met)),
       )
 
   word_at : (ws : List ℕ) (i x : ℕ) → get_elem? ws i ≡ some x → get_or ws i 0 ≡ x
@@ -766,5 +772,6 @@ module _ {M C R P : Type 0} (turns : M → ℕ → ℕ → C → R → M → Typ
       (log : List (Turn C R)) × StartsWith log x.2 × (turns_of x.3 log ≡ turns_of x.3 x.2)
       × (IsComplete x.5 → (log ≡ x.2) × AreMadeBy (x.3 ∷ x.5.joined) log)
       × ((node : ℕ) (first machine : M) → get_elem? x.0 node ≡ some first → get_elem? given node ≡ some (Some machine)
-      → Leads turns first (turns_at node log) machine × (place machine ≡ place first) × (Met node x.4 → x.1 + length (turns_at node log) ≡ 2 ^ 62))) (λ i. (opened i, begun i, saw i, number i, spent i, account i))
-      (r.0, r.1, r.2, r.3, (λ node first machine known at. let l = left node machine at in r.4 node l.0 first machine known (word_at ws (16 * node) l.0 l.1) (word_at ws (16 * node + 1) l.0 l.2) l.3))
+      → Leads turns first (turns_at node log) machine × (place machine ≡ place first) × (Met node x.4 → x.1 + length (turns_at node log) ≡ 2 ^ 62))
+      × ((node : ℕ) → Met node x.4 → node < length x.0)) (λ i. (opened i, begun i, saw i, number i, spent i, account i))
+      (r.0, r.1, r.2, r.3, (λ node first machine known at. let l = left node machine at in r.4 node l.0 first machine known (word_at ws (16 * node) l.0 l.1) (word_at ws (16 * node + 1) l.0 l.2) l.3), r.5)

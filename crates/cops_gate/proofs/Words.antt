@@ -17,6 +17,12 @@ word_here [] i x h = absurd (omega arith)
 word_here (w ∷ ws) zero x h = refl
 word_here (w ∷ ws) (suc i) x h = word_here ws i x (omega arith)
 
+-- a word that isn't 0 is in the table
+pub word_there : (ws : List ℕ) (i x : ℕ) → get_or ws i 0 ≡ x → 0 < x → i < length ws
+word_there [] i x is some = absurd (omega (arith, is, some))
+word_there (w ∷ ws) zero x is some = omega arith
+word_there (w ∷ ws) (suc i) x is some = let within = word_there ws i x is some in omega (arith, within)
+
 -- where the words of a node lie
 pub apart_words : (m n : ℕ) → 16 * m ≡ 16 * n → m ≡ n
 apart_words m n e = omega arith

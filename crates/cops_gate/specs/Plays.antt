@@ -56,10 +56,10 @@ module _ {M C R : Type 0} where
   abbrev pub fork_view : View M C R → View M C R
   fork_view v = record { opening = v.opening; is_seat = true; account = fork_of v.account; number = 0; numbered = false; seen = v.seen; told = v.told; stage = Idle; spent = v.spent }
 
-  -- v, after w has ended into it
+  -- v, after w has ended into it. It then knows at which nodes w met the last ticket
   abbrev pub joined_view : View M C R → View M C R → View M C R
   joined_view v w =
-      record { opening = v.opening; is_seat = v.is_seat; account = joined_with v.account w.number w.account; number = v.number; numbered = v.numbered; seen = v.seen; told = v.told; stage = v.stage; spent = v.spent }
+      record { opening = v.opening; is_seat = v.is_seat; account = joined_with v.account w.number w.account; number = v.number; numbered = v.numbered; seen = v.seen; told = v.told; stage = v.stage; spent = w.spent ++ v.spent }
 
   -- what was seen has all turns of this seat, and of those that ended into it
   abbrev pub KnowsTurnsOf : List (Turn C R) → View M C R → Type 0

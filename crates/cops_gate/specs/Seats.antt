@@ -1,5 +1,5 @@
 -- A gate of a cluster and its seats, as callers see them.
-use Rattle.std.specs.Prelude.{◌≡◌, ◌⊎◌, ℕ, ◌+◌, ◌*◌, ◌^◌, List, [], ◌∷◌, length, Option, Some, None, Result, Ok, IfOk, OnErr}
+use Rattle.std.specs.Prelude.{◌≡◌, ◌⊎◌, ℕ, ◌+◌, ◌*◌, ◌^◌, ◌<◌, List, [], ◌∷◌, ◌++◌, length, Option, Some, None, Result, Ok, IfOk, OnErr}
 use Rattle.std.specs.List.{AllByRecursion}
 use Rattle.std.specs.declared.alloc.AllocError.{AllocError}
 use mathlib.Core.Option.{some}
@@ -40,14 +40,20 @@ pub record Known (M C R : Type 0) : Type 0 where
 abbrev pub split_off : {M C R : Type 0} → Known M C R → Known M C R
 split_off seat = record { gate = seat.gate; number = seat.number; history = seat.history; spent = seat.spent; account = forked seat.account }
 
--- the seat, after one of this number and account has ended into it
-abbrev pub joined_by : {M C R : Type 0} → Known M C R → ℕ → Account → Known M C R
-joined_by seat number account = record { gate = seat.gate; number = seat.number; history = seat.history; spent = seat.spent; account = joined_with seat.account number account }
+-- the seat, after another has ended into it
+abbrev pub joined_by : {M C R : Type 0} → Known M C R → Known M C R → Known M C R
+joined_by seat ended =
+    record { gate = seat.gate; number = seat.number; history = seat.history; spent = ended.spent ++ seat.spent; account = joined_with seat.account ended.number ended.account }
 
 -- the account, after these seats have ended
 abbrev pub all_joined : {M C R : Type 0} → Account → List (Known M C R) → Account
 all_joined account [] = account
 all_joined account (seat ∷ seats) = joined_with (all_joined account seats) seat.number seat.account
+
+-- the nodes at which 2^62 was met, after these seats have ended
+abbrev pub all_spent : {M C R : Type 0} → List ℕ → List (Known M C R) → List ℕ
+all_spent spent [] = spent
+all_spent spent (seat ∷ seats) = seat.spent ++ all_spent spent seats
 
 -- each turn was made by a seat of one of these numbers
 abbrev pub AreMadeBy : {C R : Type 0} → List ℕ → List (Turn C R) → Type 0
@@ -62,17 +68,17 @@ HasAllTurns log seat = IsComplete seat.account → (log ≡ seat.history) × Are
 abbrev pub Extends : {M C R : Type 0} → (M → ℕ → ℕ → C → R → M → Type 0) → List M → ℕ → Known M C R → Option (Entry C R) → Known M C R → Type 0
 Extends turns states node old e new = Grows turns states old.number node old.history e new.history
 
--- The outcome of a call at a node, if `spent` is the reply for exhausted tickets. Either that is the reply and the history stays; or the machine
--- made a turn, a no-op turn if memory ran out. A seat that has met 2^62 there makes none
+-- The outcome of a call at a node, if `spent` is the reply for exhausted tickets. Either that is the reply, the history stays, and the seat has met
+-- 2^62 there; or the machine made a turn, a no-op turn if memory ran out. A seat that has met 2^62 there makes none
 abbrev pub IsToldOrSpent : {M C R : Type 0} → (M → ℕ → ℕ → C → R → M → Type 0) → (M → ℕ → C → Type 0) → List M → R → ℕ → ℕ → ℕ → C → Known M C R → Known M C R → Result R AllocError → Type 0
 IsToldOrSpent turns may_lack states spent node slot moment call old new told =
-    (told ≡ Ok spent) × (new.history ≡ old.history) × Met node new.spent
+    (told ≡ Ok spent) × (new.history ≡ old.history) × (new.spent ≡ node ∷ old.spent)
     ⊎ (Met node old.spent → ⊥) × (new.spent ≡ old.spent)
     × IfOk told (λ reply. Extends turns states node old (Some (entry slot moment call reply)) new)
     × OnErr told (Extends turns states node old None new × LeavesLacking turns may_lack states old.number node slot call new.history)
 
 -- One history has all that the seat has seen as a prefix, and no other turn of it. The turns at each node leave the machine that is returned.
--- If the seat has met the ticket word at 2^62 there, each ticket below that had its turn
+-- If the seat has met the ticket word at 2^62 there, each ticket below that had its turn. A node at which the seat met it exists
 abbrev pub ClosesWith : {M C R P : Type 0} → (M → ℕ → ℕ → C → R → M → Type 0) → (M → P) → Origin M → Known M C R → List (Option M) → Type 0
 ClosesWith {M} {C} {R} turns place gate seat machines =
     (log : List (Turn C R)) × StartsWith log seat.history
@@ -80,6 +86,7 @@ ClosesWith {M} {C} {R} turns place gate seat machines =
     × HasAllTurns log seat
     × ((node : ℕ) (first : M) (machine : M) → get_elem? gate.opening node ≡ some first → get_elem? machines node ≡ some (Some machine)
     → Leads turns first (turns_at node log) machine × (place machine ≡ place first) × (Met node seat.spent → gate.ticket + length (turns_at node log) ≡ 2 ^ 62))
+    × ((node : ℕ) → Met node seat.spent → node < length gate.opening)
 
 -- the seat 0 of a gate
 abbrev pub first_seat : {M C R : Type 0} → Origin M → Known M C R

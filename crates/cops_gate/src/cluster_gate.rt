@@ -13,7 +13,7 @@ ghost use Rattle.cops_gate.specs.History.{entry, turns_of, StartsWith, IsWhole, 
 ghost use Rattle.cops_gate.specs.Rule.{Met};
 ghost use Rattle.cops_gate.specs.Plays.{HasRoom, IsTableFor};
 ghost use Rattle.cops_gate.specs.Accounts.{fork_of};
-ghost use Rattle.cops_gate.specs.Seats.{AreAtRest, ClosesWith, Extends, HasAllOf, IsAtRest, IsToldOrSpent, Known, Origin, all_joined, first_seat, gate_home, joined_by, split_off};
+ghost use Rattle.cops_gate.specs.Seats.{AreAtRest, ClosesWith, Extends, HasAllOf, IsAtRest, IsToldOrSpent, Known, Origin, all_joined, all_spent, first_seat, gate_home, joined_by, split_off};
 
 use crate::board::{Beginning, Board, BoardSeat};
 use crate::meetings::{end, fork, hear, learn, note};
@@ -123,7 +123,7 @@ impl<M: Machine> ClusterGate<M> {
         ensures refused { IfRefusal result (λ f. f ≡ GateSpent) }
         ensures blank { result ≡ Err OutOfMemory → Extends M.turns self.now.opening node seat.old None seat.new }
         ensures lacks { result ≡ Err OutOfMemory → LeavesLacking M.turns M.may_lack self.now.opening seat.old.number node slot call seat.new.history }
-        ensures spent { result ≡ Err (RefusedWith GateSpent) → (seat.new.history ≡ seat.old.history) × Met node seat.new.spent }
+        ensures spent { result ≡ Err (RefusedWith GateSpent) → (seat.new.history ≡ seat.old.history) × (seat.new.spent ≡ node ∷ seat.old.spent) }
         ensures unspent { result ≢ Err (RefusedWith GateSpent) → seat.new.spent ≡ seat.old.spent }
         ensures room { HasRoom seat.new.gate.opening seat.new.history }
         ensures again { Met node seat.old.spent → result ≡ Err (RefusedWith GateSpent) }
@@ -230,12 +230,14 @@ impl<M: Machine> ClusterGate<M> {
     }
 
     /// Ends these seats (join). The last one sees all that they have seen, and in its history the
-    /// turns of each are those that it made. Its account has them.
+    /// turns of each are those that it made. Its account has them. It knows at which nodes they met the
+    /// last ticket.
     pub fn end_all(&self, mut seats: Vec<ClusterSeat<M>>, last: &mut ClusterSeat<M>)
         requires seats { AllByRecursion (λ (s : Known M M.Call M.Reply). s.gate ≡ gate_home self.now) seats.items }
         requires last { last.old.gate ≡ gate_home self.now }
-        ensures same { (last.new.gate ≡ last.old.gate) × (last.new.number ≡ last.old.number) × (last.new.spent ≡ last.old.spent) }
+        ensures same { (last.new.gate ≡ last.old.gate) × (last.new.number ≡ last.old.number) }
         ensures account { last.new.account ≡ all_joined last.old.account seats.items }
+        ensures spent { last.new.spent ≡ all_spent last.old.spent seats.items }
         ensures given { AllByRecursion (HasAllOf last.new.history) seats.items }
         ensures seen { StartsWith last.new.history last.old.history }
         ensures no_turn { turns_of last.new.number last.new.history ≡ turns_of last.old.number last.old.history }
@@ -266,8 +268,9 @@ impl<M: Machine> ClusterGate<M> {
         requires seats { AllByRecursion (λ (s : Known M M.Call M.Reply). s.gate ≡ gate_home self.now) seats.items }
         requires last { last.old.gate ≡ gate_home self.now }
         requires each { AllByRecursion (λ (s : Known M M.Call M.Reply). StartsWith last.old.history s.history) seats.items }
-        ensures same { (last.new.gate ≡ last.old.gate) × (last.new.number ≡ last.old.number) × (last.new.spent ≡ last.old.spent) × (last.new.history ≡ last.old.history) }
+        ensures same { (last.new.gate ≡ last.old.gate) × (last.new.number ≡ last.old.number) × (last.new.history ≡ last.old.history) }
         ensures account { last.new.account ≡ all_joined last.old.account seats.items }
+        ensures spent { last.new.spent ≡ all_spent last.old.spent seats.items }
         ensures given { AllByRecursion (HasAllOf last.new.history) seats.items }
     {
         while let Some(seat) = seats.pop() {
@@ -281,7 +284,7 @@ impl<M: Machine> ClusterGate<M> {
         requires seat { seat.gate ≡ gate_home self.now }
         requires last { last.old.gate ≡ gate_home self.now }
         requires seen { StartsWith last.old.history seat.history }
-        ensures last { last.new ≡ joined_by last.old seat.number seat.account }
+        ensures last { last.new ≡ joined_by last.old seat }
         ensures given { HasAllOf last.new.history seat }
     {
         self.meet(last, &mut seat);

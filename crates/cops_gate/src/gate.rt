@@ -97,7 +97,7 @@ impl<M: Machine> Gate<M> {
         ensures refused { IfRefusal result (λ f. f ≡ GateSpent) }
         ensures blank { result ≡ Err OutOfMemory → GrowsThere M.turns self.now.opening seat.old.number 0 seat.old.history None seat.new.history }
         ensures lacks { result ≡ Err OutOfMemory → LacksThere M.turns M.may_lack self.now.opening seat.old.number 0 slot call seat.new.history }
-        ensures spent { result ≡ Err (Refused GateSpent) → (seat.new.history ≡ seat.old.history) × Met 0 seat.new.spent }
+        ensures spent { result ≡ Err (Refused GateSpent) → (seat.new.history ≡ seat.old.history) × (seat.new.spent ≡ 0 ∷ seat.old.spent) }
         ensures unspent { result ≢ Err (Refused GateSpent) → seat.new.spent ≡ seat.old.spent }
         ensures room { self.now.ticket + length seat.new.history ≤ 2 ^ 62 }
         ensures again { Met 0 seat.old.spent → result ≡ Err (Refused GateSpent) }

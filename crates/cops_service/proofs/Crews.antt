@@ -1,14 +1,14 @@
 -- Seats that the threads of a service give back.
-use Rattle.std.proofs.Common.{◌≡◌, ◌∙◌, ℕ, suc, ◌+◌, ◌-◌, ◌==◌, true, false, List, [], ◌∷◌, ◌++◌, map, length, length-append, append-nil, cond, true≢false, inl, inr, refl, sym, ap, subst, arith}
+use Rattle.std.proofs.Common.{◌≡◌, ◌∙◌, ℕ, suc, ◌+◌, ◌-◌, ◌^◌, ◌==◌, true, false, List, [], ◌∷◌, ◌++◌, map, length, length-append, append-nil, cond, true≢false, inl, inr, refl, sym, ap, subst, arith}
 use Rattle.std.specs.List.{AllByRecursion}
 use Rattle.std.proofs.lemmas.Bool.Decides.{Decides-eqb}
 use Rattle.cops_types.specs.declared.configs.Config.{Config}
 use Rattle.cops_gate.specs.declared.board.Account.{Account}
 use Rattle.cops_gate.specs.declared.history.Turn.{Turn}
 use Rattle.cops_gate.specs.Accounts.{IsComplete, counted_account, first_of, forked}
-use Rattle.cops_gate.specs.History.{turns_of}
+use Rattle.cops_gate.specs.History.{turns_at, turns_of}
 use Rattle.cops_gate.specs.Rule.{Met}
-use Rattle.cops_gate.specs.Seats.{AreMadeBy, HasAllOf, Known, Origin, all_joined, first_seat, split_off}
+use Rattle.cops_gate.specs.Seats.{AreMadeBy, HasAllOf, Known, Origin, all_joined, all_spent, first_seat, split_off}
 use Rattle.cops_gate.proofs.Ending.{all_joined as all_parts, all_weaker}
 use Rattle.cops_node.specs.Clusters.{new_nodes}
 use Rattle.cops_node.specs.Parts.{home_in, IsMachineTurn, Shared}
@@ -20,10 +20,10 @@ use Rattle.cops_service.specs.Slots.{NodeLog}
 -- ---- the first seat counts those that are split off from it
 
 pub none_split : (gate : Origin Shared) (seat : NodeSeat) → seat ≡ first_seat gate → HasSplitOff 0 seat
-none_split gate seat is = subst (HasSplitOff 0) (sym is) (refl, refl)
+none_split gate seat is = subst (HasSplitOff 0) (sym is) (refl, refl, refl)
 
 pub one_more_split : (count : ℕ) (old new : NodeSeat) → HasSplitOff count old → new ≡ split_off old → HasSplitOff (count + 1) new
-one_more_split count old new h is = subst (HasSplitOff (count + 1)) (sym is) (h.0, ap forked h.1)
+one_more_split count old new h is = subst (HasSplitOff (count + 1)) (sym is) (h.0, ap forked h.1, h.2)
 
 pub is_the_first : (count : ℕ) (seat : NodeSeat) → HasSplitOff count seat → seat.account.is_first ≡ true
 is_the_first count seat h = ap (λ (a : Account). a.is_first) h.1
@@ -85,13 +85,14 @@ module _ {M : Type 0} (Gives : M → ℕ → M → Type 0) (moments : M) (config
 
   -- the seat that they ended into
   pub seen_crew : (count : ℕ) (old new : NodeSeat) (seats : List NodeSeat) → AreOfCrew Gives moments config cluster count seats → HasSplitOff (count + 1 + 1) old → AllByRecursion (λ seat. HasAllOf new.history seat) seats
-      → turns_of new.number new.history ≡ turns_of old.number old.history → new.account ≡ all_joined old.account seats → HasSeenCrew Gives moments config cluster count new
-  seen_crew count old new seats crew first all same account = record {
+      → turns_of new.number new.history ≡ turns_of old.number old.history → new.account ≡ all_joined old.account seats → new.spent ≡ all_spent old.spent seats → HasSeenCrew Gives moments config cluster count new
+  seen_crew count old new seats crew first all same account spent = record {
     seats = seats;
     crew = crew;
     all = all;
     no_turn = same ∙ first.0;
     account = account ∙ ap (λ a. all_joined a seats) first.1;
+    spent = spent ∙ ap (λ met. all_spent met seats) first.2;
   }
 
   all_ended : (count : ℕ) (seat : NodeSeat) → HasSeenCrew Gives moments config cluster count seat → IsComplete seat.account
@@ -104,9 +105,9 @@ module _ {M : Type 0} (Gives : M → ℕ → M → Type 0) (moments : M) (config
       }
 
   -- the nodes that are closed are those that they served
-  pub are_served : (count : ℕ) (seat : NodeSeat) (nodes : List Shared) → openings cluster ≡ (new_nodes config).nodes → cluster.shards ≡ config.shards → Ends IsMachineTurn home_in cluster seat nodes
+  pub are_served : (count : ℕ) (seat : NodeSeat) (nodes : List Shared) → openings cluster ≡ (new_nodes config).nodes → cluster.shards ≡ config.shards → cluster.gate.ticket ≡ 0 → Ends IsMachineTurn home_in cluster seat nodes
       → HasSeenCrew Gives moments config cluster count seat → AreServedBy Gives moments config count nodes
-  are_served count seat nodes opened shards ends seen =
+  are_served count seat nodes opened shards ticket ends seen =
       let whole = ends.4 (all_ended count seat seen) in
       let joined : seat.account.joined ≡ map (λ (s : NodeSeat). s.number) seen.seats
       = ap (λ (a : Account). a.joined) seen.account ∙ (joined_are (first_of (count + 1 + 1)) seen.seats (crew_counted count seen.seats seen.crew) ∙ append-nil (map (λ (s : NodeSeat). s.number) seen.seats)) in
@@ -120,4 +121,5 @@ module _ {M : Type 0} (Gives : M → ℕ → M → Type 0) (moments : M) (config
         whole = whole.0;
         seen = seen;
         made = subst (λ numbers. AreMadeBy numbers ends.1) joined (not_by seat.number seat.account.joined ends.1 (ends.3 ∙ seen.no_turn) whole.1);
+        exhausted = λ node met. let full : cluster.gate.ticket + length (turns_at node ends.1) ≡ 2 ^ 62 = ends.6 node met in omega (arith, ticket, full);
       }

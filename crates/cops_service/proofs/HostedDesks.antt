@@ -1,6 +1,5 @@
 -- A cluster at which tenants come and go.
 use Rattle.std.proofs.Common.{◌≡◌, ℕ, suc, arith, ◌∙◌, ◌+◌, ◌^◌, ◌<◌, ◌≤◌, List, map, length, sym, ap, subst, get_or, IsTrue}
-use Rattle.std.specs.Prelude.{Result, Ok, Err, IfOk}
 use Rattle.std.proofs.lemmas.List.{get_or-map, length-map}
 use Rattle.cops_types.specs.declared.configs.Config.{Config}
 use Rattle.cops_types.specs.HeadLines.{are_sizes}
@@ -13,7 +12,7 @@ use Rattle.cops_node.specs.declared.hosted.SlotReply.{SlotReply}
 use Rattle.cops_node.specs.Hosting.{FitsSlot, Hosted, host_in}
 use Rattle.cops_service.specs.Gates.{Exists, Gates, openings}
 use Rattle.cops_service.specs.HostedDesks.{AreHosted, CallsFirst, FitsThere, HostedSeat, IsHostCall, hosted_node, hosted_shape, nodes_in}
-use Rattle.cops_service.proofs.Desks.{counted, fitting_read, new_are_nodes, new_shape, read_at, there}
+use Rattle.cops_service.proofs.Desks.{counted, fitting_read, new_shape, read_at, there}
 use mathlib.Core.Option.{some}
 use lib.ListN.{get_elem?}
 
@@ -21,11 +20,6 @@ use lib.ListN.{get_elem?}
 
 pub new_hosted_shape : (config : Config) (cluster : Gates Hosted) → IsTrue (are_sizes config) → map hosted_node (openings cluster) ≡ (new_nodes config).nodes → hosted_shape cluster ≡ shape_of config
 new_hosted_shape config cluster sizes is = new_shape config (nodes_in cluster) sizes is
-
-pub new_are_hosted : {B E : Type 0} (config : Config) (r : Result (Gates Hosted × B) E) (machines : List Hosted) → IsTrue (are_sizes config) → map hosted_node machines ≡ (new_nodes config).nodes →
-    IfOk r (λ x. x.0.shards ≡ config.shards) → IfOk r (λ x. openings x.0 ≡ machines) → IfOk r (λ x. AreHosted x.0)
-new_are_hosted config (Ok x) machines sizes is shards opened = new_are_nodes config (nodes_in x.0) sizes shards (ap (map hosted_node) opened ∙ is)
-new_are_hosted config (Err e) machines sizes is shards opened = tt
 
 pub counted_hosted : (config : Config) (machines : List Hosted) → IsTrue (are_sizes config) → map hosted_node machines ≡ (new_nodes config).nodes → (0 < length machines) × (length machines ≤ 2 ^ 32)
 counted_hosted config machines sizes is =

@@ -1,10 +1,12 @@
 -- The threads of a service: what each did with its seat, and the one history that has it all.
-use Rattle.std.specs.Prelude.{◌≡◌, ℕ, ◌+◌, List, [], ◌∷◌, ◌++◌, map, length, IsTrue}
+use Rattle.std.specs.Prelude.{◌≡◌, ℕ, ◌+◌, ◌^◌, List, [], ◌∷◌, ◌++◌, map, length, IsTrue}
 use Rattle.std.specs.List.{AllByRecursion}
 use Rattle.cops_types.specs.declared.configs.Config.{Config}
 use Rattle.cops_types.specs.HeadLines.{are_sizes}
 use Rattle.cops_gate.specs.Accounts.{counted_account, first_of}
-use Rattle.cops_gate.specs.Seats.{AreMadeBy, HasAllOf, all_joined}
+use Rattle.cops_gate.specs.History.{turns_at}
+use Rattle.cops_gate.specs.Rule.{Met}
+use Rattle.cops_gate.specs.Seats.{AreMadeBy, HasAllOf, all_joined, all_spent}
 use Rattle.cops_node.specs.Clusters.{new_nodes, shape_of}
 use Rattle.cops_node.specs.Parts.{Shared}
 use Rattle.cops_service.specs.Calling.{CollectAll}
@@ -64,16 +66,18 @@ module _ {M : Type 0} (Gives : M → ℕ → M → Type 0) (moments : M) (config
     pub collects : HasJustDone cluster (CollectsPlaces config cluster) collector
 
   -- A seat has seen all that the threads' seats saw, and of the turns of each those that it made. It is the first seat, has made no turn, and these
-  -- seats ended into it, which are all that were split off from it
+  -- seats ended into it, which are all that were split off from it. It knows at which nodes they met the last ticket
   pub record HasSeenCrew (workers : ℕ) (seat : NodeSeat) : Type 0 where
     pub seats : List NodeSeat
     pub crew : AreOfCrew workers seats
     pub all : AllByRecursion (HasAllOf seat.history) seats
     pub no_turn : HasNoTurn seat
     pub account : seat.account ≡ all_joined (first_of (workers + 1 + 1)) seats
+    pub spent : seat.spent ≡ all_spent [] seats
 
 -- One history leaves these nodes from the new ones of the configuration. It has all that the threads' seats saw, and each of its turns was made by one
--- of these seats. The turns of a seat are those that it made: conversations of a worker, carriers, or collections.
+-- of these seats. The turns of a seat are those that it made: conversations of a worker, carriers, or collections. At a node at which one of them met
+-- the last ticket, 2^62 turns were made.
 pub record AreServedBy {M : Type 0} (Gives : M → ℕ → M → Type 0) (moments : M) (config : Config) (workers : ℕ) (nodes : List Shared) : Type 0 where
   pub cluster : Gates Shared
   pub opened : openings cluster ≡ (new_nodes config).nodes
@@ -84,3 +88,4 @@ pub record AreServedBy {M : Type 0} (Gives : M → ℕ → M → Type 0) (moment
   pub whole : log ≡ last.history
   pub seen : HasSeenCrew Gives moments config cluster workers last
   pub made : AreMadeBy (map (λ (s : NodeSeat). s.number) seen.seats) log
+  pub exhausted : (node : ℕ) → Met node last.spent → length (turns_at node log) ≡ 2 ^ 62

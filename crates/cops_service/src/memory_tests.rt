@@ -276,12 +276,13 @@ fn one_machine(rt: &impl Abort, alloc: Global) -> (Cluster<Counter>, ServiceSeat
     ensures own { IsSeatOf result.0 result.1 }
     ensures one { (result.0.shards ≡ 1) × (1 ≤ length result.0.gate.opening) }
 {
-    match Cluster::of(alloc, 1, one_counter(alloc).expect(rt, "memory")) {
-        Ok(both) => both,
+    let made = match Cluster::of(alloc, 1, one_counter(alloc).expect(rt, "memory")) {
+        Ok(made) => made,
         Err(_) => Cluster::of(alloc, 1, one_counter(alloc).expect(rt, "memory")).expect(
             rt, "memory",
         ),
-    }
+    };
+    made.expect(rt, "a machine")
 }
 
 #[test]

@@ -43,7 +43,7 @@ no_turns crew number (t ∷ ts) none all = elim (t.seat == number) as (λ b. (t.
 module _ (config : Config) (cluster : Gates Shared) (history : NodeLog) where
   -- a seat that made no turn had no actors
   idle : (number : ℕ) → turns_of number history ≡ [] → SeatDid config cluster history number []
-  idle number none = record { first = unused; last = unused; number_is = refl; no_turn = refl; made = refl; behave = tt; ticketed = tt; all_of = ((history, refl), none) }
+  idle number none = record { first = unused; last = unused; number_is = refl; no_turn = refl; made = refl; behave = tt; all_of = ((history, refl), none) }
     where
       unused : NodeSeat
       unused = record { gate = gate_home cluster.gate; number = number; history = []; spent = []; account = no_account }

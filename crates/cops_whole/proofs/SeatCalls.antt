@@ -6,7 +6,7 @@ use Rattle.std.proofs.lemmas.List.{append_cancel_right, map-append}
 use mathlib.Core.Option.{some}
 use lib.ListN.{get_elem?}
 use Rattle.cops_types.specs.declared.configs.Config.{Config}
-use Rattle.cops_types.specs.declared.faults.Fault.TheVariants.{GateSpent, OutOfMemory}
+use Rattle.cops_types.specs.declared.faults.Fault.TheVariants.{OutOfMemory}
 use Rattle.cops_gate.specs.declared.history.Turn.{Turn as GateTurn}
 use Rattle.cops_gate.specs.History.{Leads, StartsWith, entry, turn, turns_at, turns_of}
 use Rattle.cops_gate.specs.Seats.{Extends}
@@ -18,14 +18,14 @@ use Rattle.cops_model.specs.declared.calls.NodeReply.TheVariants.{Refused}
 use Rattle.cops_model.specs.Place.{node_number}
 use Rattle.cops_node.specs.Lacking.{MayLack}
 use Rattle.cops_node.specs.Parts.{Shared, IsMachineTurn}
-use Rattle.cops_service.specs.Desks.{IsDeskCall, NodeSeat}
-use Rattle.cops_service.specs.Gates.{Gates, IsToldAtGate, openings}
+use Rattle.cops_service.specs.Desks.{NodeSeat}
+use Rattle.cops_service.specs.Gates.{Gates, openings}
 use Rattle.cops_service.specs.Slots.{NodeEntry, NodeLog}
 use Rattle.cops_history.specs.Turns.{Turn, was_refused_memory}
-use Rattle.cops_served.specs.Conversations.{AreRecorded, MakesTurns, turns_of_told}
+use Rattle.cops_served.specs.Conversations.{MakesTurns, turns_of_told}
 use Rattle.cops_whole.specs.NoOps.{kept_log}
-use Rattle.cops_whole.specs.Seats.{AllRecorded, MakesAll, SlotActor, turn_by, turns_by_actor}
-use Rattle.cops_whole.specs.Services.{logged_entry, logged_history, was_refused_ticket}
+use Rattle.cops_whole.specs.Seats.{MakesAll, SlotActor, turn_by, turns_by_actor}
+use Rattle.cops_whole.specs.Services.{IsTurnAtNode, logged_entry, logged_history}
 use Rattle.cops_whole.specs.Whole.{CallEntry, WholeTurn, whole_turn}
 use Rattle.cops_whole.proofs.Filling.{kept_turn}
 use Rattle.cops_whole.proofs.Histories.{AreNotLacking, ArePlaced, last_with_memory, placed, placed_of, with_memory}
@@ -37,9 +37,13 @@ logged_turn t = whole_turn t.seat t.node (logged_entry t.entry)
 
 -- ---- what one seat did
 
+-- a turn at the node of an id
+abbrev pub IsTurnByNumber : Gates Shared → NodeSeat → NodeId → ℕ → ℕ → NodeCall → NodeReply → NodeSeat → Type 0
+IsTurnByNumber cluster old id slot moment call reply new = IsTurnAtNode cluster (node_number cluster.shards id) old slot moment call reply new
+
 module _ (config : Config) (cluster : Gates Shared) (shards : cluster.shards ≡ config.shards) (seat : ℕ) where
   abbrev Calls : NodeSeat → NodeId → ℕ → ℕ → NodeCall → NodeReply → NodeSeat → Type 0
-  Calls = IsDeskCall cluster
+  Calls = IsTurnByNumber cluster
 
   -- the seat's turns in a history, as gates keep them
   abbrev KeptOwn : NodeLog → List WholeTurn
@@ -53,10 +57,10 @@ module _ (config : Config) (cluster : Gates Shared) (shards : cluster.shards ≡
 
   -- how a call changed the seat, with the number of its node
   abbrev IsToldThere : NodeSeat → ℕ → Turn → NodeSeat → Type 0
-  IsToldThere old slot t new = IsToldAtGate IsMachineTurn MayLack (Refused OutOfMemory) (Refused GateSpent) slot t.moment t.call t.reply (openings cluster) (node_number config.shards t.node) old new
+  IsToldThere old slot t new = IsTurnAtNode cluster (node_number config.shards t.node) old slot t.moment t.call t.reply new
 
   told_there : (old new : NodeSeat) (slot : ℕ) (t : Turn) → Calls old t.node slot t.moment t.call t.reply new → IsToldThere old slot t new
-  told_there old new slot t h = subst (λ n. IsToldAtGate IsMachineTurn MayLack (Refused OutOfMemory) (Refused GateSpent) slot t.moment t.call t.reply (openings cluster) (node_number n t.node) old new) shards h
+  told_there old new slot t h = subst (λ n. IsTurnAtNode cluster (node_number n t.node) old slot t.moment t.call t.reply new) shards h
 
   -- a seat after some calls, which it has added to its own turns
   pub record Grown (old : NodeSeat) (calls : List WholeTurn) (new : NodeSeat) : Type 0 where
@@ -93,28 +97,25 @@ module _ (config : Config) (cluster : Gates Shared) (shards : cluster.shards ≡
         there = λ before. placed_of (length (openings cluster)) seat new.history (placed (length (openings cluster)) new.history grows.0.0);
       }
 
-  called : (old new : NodeSeat) (slot : ℕ) (t : Turn) → old.number ≡ seat → was_refused_ticket t.reply ≡ false → IsToldThere old slot t new → Grown old (by_seat slot t ∷ []) new
-  called old new slot t number_is ticketed h = elim (h.grows) [
-    | inl grows ↦ extended (node_number config.shards t.node) old new (Some (entry slot t.moment t.call t.reply)) (by_seat slot t) number_is h.same.1 grows refl
-    | inr other ↦ elim other [
-      | inl lacking ↦
-          extended (node_number config.shards t.node) old new None (by_seat slot t) number_is h.same.1 lacking.1
-          (ap (λ r. kept_turn (turn_by config seat slot (record { node = t.node; moment = t.moment; call = t.call; reply = r }))) (sym lacking.0))
-      | inr spent ↦ absurd (true≢false (sym (ap was_refused_ticket spent.0) ∙ ticketed))
-    ]
+  called : (old new : NodeSeat) (slot : ℕ) (t : Turn) → old.number ≡ seat → IsToldThere old slot t new → Grown old (by_seat slot t ∷ []) new
+  called old new slot t number_is h = elim (h.1) [
+    | inl grows ↦ extended (node_number config.shards t.node) old new (Some (entry slot t.moment t.call t.reply)) (by_seat slot t) number_is h.0 grows refl
+    | inr lacking ↦
+        extended (node_number config.shards t.node) old new None (by_seat slot t) number_is h.0 lacking.1
+        (ap (λ r. kept_turn (turn_by config seat slot (record { node = t.node; moment = t.moment; call = t.call; reply = r }))) (sym lacking.0))
   ]
 
-  one_made : (slot : ℕ) (turns : List Turn) (old new : NodeSeat) → old.number ≡ seat → AreRecorded was_refused_ticket turns → MakesTurns Calls slot old turns new → Grown old (map (by_seat slot) turns) new
-  one_made slot [] old new number_is all same = stays old new number_is same
-  one_made slot (t ∷ turns) old new number_is all (mid, call, later) =
-      let first = called old mid slot t number_is all.0 (told_there old mid slot t call) in
-      both old mid new (by_seat slot t ∷ []) (map (by_seat slot) turns) first (one_made slot turns mid new first.number_is all.1 later)
+  one_made : (slot : ℕ) (turns : List Turn) (old new : NodeSeat) → old.number ≡ seat → MakesTurns Calls slot old turns new → Grown old (map (by_seat slot) turns) new
+  one_made slot [] old new number_is same = stays old new number_is same
+  one_made slot (t ∷ turns) old new number_is (mid, call, later) =
+      let first = called old mid slot t number_is (told_there old mid slot t call) in
+      both old mid new (by_seat slot t ∷ []) (map (by_seat slot) turns) first (one_made slot turns mid new first.number_is later)
 
-  pub all_grown : (actors : List SlotActor) (old new : NodeSeat) → old.number ≡ seat → AllRecorded was_refused_ticket actors → MakesAll Calls old actors new → Grown old (flat_map (turns_by_actor config seat) actors) new
-  all_grown [] old new number_is all same = stays old new number_is same
-  all_grown (a ∷ actors) old new number_is all (mid, made, later) =
-      let first = one_made a.slot (turns_of_told a.did) old mid number_is all.0 made in
-      both old mid new (turns_by_actor config seat a) (flat_map (turns_by_actor config seat) actors) first (all_grown actors mid new first.number_is all.1 later)
+  pub all_grown : (actors : List SlotActor) (old new : NodeSeat) → old.number ≡ seat → MakesAll Calls old actors new → Grown old (flat_map (turns_by_actor config seat) actors) new
+  all_grown [] old new number_is same = stays old new number_is same
+  all_grown (a ∷ actors) old new number_is (mid, made, later) =
+      let first = one_made a.slot (turns_of_told a.did) old mid number_is made in
+      both old mid new (turns_by_actor config seat a) (flat_map (turns_by_actor config seat) actors) first (all_grown actors mid new first.number_is later)
 
   -- ---- calls that were refused memory
 
@@ -155,26 +156,23 @@ module _ (config : Config) (cluster : Gates Shared) (shards : cluster.shards ≡
 
     lacked : (before : List WholeTurn) (old new : NodeSeat) (slot : ℕ) (t : Turn) → old.number ≡ seat → KeptOwn old.history ≡ kept_log before → StartsWith history new.history → t.reply ≡ Refused OutOfMemory → IsToldThere old slot t new →
         LackedHere before (by_seat slot t) (record { slot = slot; moment = t.moment; call = t.call; reply = t.reply })
-    lacked before old new slot t number_is own seen lack h = elim (h.grows) [
+    lacked before old new slot t number_is own seen lack h = elim (h.1) [
       | inl grows ↦ absurd (true≢false (sym (ap was_refused_memory lack) ∙ last_with_memory (old.history ++ grows.1.0) (turn old.number (node_number config.shards t.node) (Some (entry slot t.moment t.call t.reply)))
           (subst AreNotLacking grows.1.1 (with_memory (openings cluster) new.history (placed (length (openings cluster)) new.history grows.0.0) grows.0.1))))
-      | inr other ↦ elim other [
-        | inl lacking ↦
-            let node : ℕ = node_number config.shards t.node in
-            let l = lacking.2 in
-            record {
-              earlier = l.0;
-              later = seen.0;
-              place = seen.1 ∙ ap (λ ts. ts ++ seen.0) l.3 ∙ append_assoc l.0 (turn old.number node None ∷ []) seen.0 ∙ ap (λ n. l.0 ++ turn n node None ∷ seen.0) number_is;
-              own = ap (λ ts. kept_log (logged_history ts)) (then_before node old new l.0 number_is lacking.1 l.3) ∙ own;
-              opened = l.1;
-              opened_is = l.4;
-              state = l.2;
-              leads = l.5;
-              may_lack = l.6;
-            }
-        | inr spent ↦ absurd (true≢false (sym (ap was_refused_memory lack) ∙ ap was_refused_memory spent.0))
-      ]
+      | inr lacking ↦
+          let node : ℕ = node_number config.shards t.node in
+          let l = lacking.2 in
+          record {
+            earlier = l.0;
+            later = seen.0;
+            place = seen.1 ∙ ap (λ ts. ts ++ seen.0) l.3 ∙ append_assoc l.0 (turn old.number node None ∷ []) seen.0 ∙ ap (λ n. l.0 ++ turn n node None ∷ seen.0) number_is;
+            own = ap (λ ts. kept_log (logged_history ts)) (then_before node old new l.0 number_is lacking.1 l.3) ∙ own;
+            opened = l.1;
+            opened_is = l.4;
+            state = l.2;
+            leads = l.5;
+            may_lack = l.6;
+          }
     ]
 
     if_lacked : (before : List WholeTurn) (old new : NodeSeat) (slot : ℕ) (t : Turn) → old.number ≡ seat → KeptOwn old.history ≡ kept_log before → StartsWith history new.history → IsToldThere old slot t new → IfLacked before (by_seat slot t)
@@ -189,23 +187,23 @@ module _ (config : Config) (cluster : Gates Shared) (shards : cluster.shards ≡
     grown_before : (before calls : List WholeTurn) (old mid : NodeSeat) → KeptOwn old.history ≡ kept_log before → Grown old calls mid → KeptOwn mid.history ≡ kept_log (before ++ calls)
     grown_before before calls old mid own grown = grown.own ∙ ap (λ ts. ts ++ kept_log calls) own ∙ sym (map-append kept_turn before calls)
 
-    one_lacked : (slot : ℕ) (turns : List Turn) (before : List WholeTurn) (old new : NodeSeat) → old.number ≡ seat → KeptOwn old.history ≡ kept_log before → StartsWith history new.history → AreRecorded was_refused_ticket turns →
+    one_lacked : (slot : ℕ) (turns : List Turn) (before : List WholeTurn) (old new : NodeSeat) → old.number ≡ seat → KeptOwn old.history ≡ kept_log before → StartsWith history new.history →
         MakesTurns Calls slot old turns new → AllLacked before (map (by_seat slot) turns)
-    one_lacked slot [] before old new number_is own seen all same = tt
-    one_lacked slot (t ∷ turns) before old new number_is own seen all (mid, call, later) =
+    one_lacked slot [] before old new number_is own seen same = tt
+    one_lacked slot (t ∷ turns) before old new number_is own seen (mid, call, later) =
         let h = told_there old mid slot t call in
-        let first = called old mid slot t number_is all.0 h in
-        let rest = one_made slot turns mid new first.number_is all.1 later in (
+        let first = called old mid slot t number_is h in
+        let rest = one_made slot turns mid new first.number_is later in (
           if_lacked before old mid slot t number_is own (on history new.history mid.history seen rest.seen) h,
-          one_lacked slot turns (before ++ by_seat slot t ∷ []) mid new first.number_is (grown_before before (by_seat slot t ∷ []) old mid own first) seen all.1 later,
+          one_lacked slot turns (before ++ by_seat slot t ∷ []) mid new first.number_is (grown_before before (by_seat slot t ∷ []) old mid own first) seen later,
         )
 
-    pub all_lacked : (actors : List SlotActor) (before : List WholeTurn) (old new : NodeSeat) → old.number ≡ seat → KeptOwn old.history ≡ kept_log before → StartsWith history new.history → AllRecorded was_refused_ticket actors →
+    pub all_lacked : (actors : List SlotActor) (before : List WholeTurn) (old new : NodeSeat) → old.number ≡ seat → KeptOwn old.history ≡ kept_log before → StartsWith history new.history →
         MakesAll Calls old actors new → AllLacked before (flat_map (turns_by_actor config seat) actors)
-    all_lacked [] before old new number_is own seen all same = tt
-    all_lacked (a ∷ actors) before old new number_is own seen all (mid, made, later) =
-        let first = one_made a.slot (turns_of_told a.did) old mid number_is all.0 made in
-        let rest = all_grown actors mid new first.number_is all.1 later in
+    all_lacked [] before old new number_is own seen same = tt
+    all_lacked (a ∷ actors) before old new number_is own seen (mid, made, later) =
+        let first = one_made a.slot (turns_of_told a.did) old mid number_is made in
+        let rest = all_grown actors mid new first.number_is later in
         joined before (turns_by_actor config seat a) (flat_map (turns_by_actor config seat) actors)
-        (one_lacked a.slot (turns_of_told a.did) before old mid number_is own (on history new.history mid.history seen rest.seen) all.0 made)
-        (all_lacked actors (before ++ turns_by_actor config seat a) mid new first.number_is (grown_before before (turns_by_actor config seat a) old mid own first) seen all.1 later)
+        (one_lacked a.slot (turns_of_told a.did) before old mid number_is own (on history new.history mid.history seen rest.seen) made)
+        (all_lacked actors (before ++ turns_by_actor config seat a) mid new first.number_is (grown_before before (turns_by_actor config seat a) old mid own first) seen later)

@@ -1,5 +1,5 @@
 -- The seats that the threads of a service gave back did the calls of actors.
-use Rattle.std.proofs.Common.{◌≡◌, ◌≢◌, ℕ, zero, suc, ◌*◌, ◌<◌, true, false, not, ◌==◌, ◌&&◌, nat_lt, List, [], ◌∷◌, map, length, inl, inr, get_or, lt-ltb, refl, sym, ◌∙◌, ap, subst}
+use Rattle.std.proofs.Common.{◌≡◌, ◌≢◌, ℕ, zero, suc, ◌*◌, ◌<◌, true, false, not, ◌==◌, ◌&&◌, nat_lt, List, [], ◌∷◌, map, length, inl, inr, get_or, lt-ltb, refl, sym, ◌∙◌, ap, subst, arith}
 use Rattle.std.specs.Prelude.{Some, slice_get}
 use Rattle.std.specs.List.{AllByRecursion}
 use Rattle.std.proofs.lemmas.Bool.Decides.{Decides-eqb}
@@ -13,11 +13,14 @@ use Rattle.cops_types.proofs.Elements.{and_true}
 use Rattle.cops_gate.specs.History.{IsLegal, Leads, turns_at}
 use Rattle.cops_gate.specs.declared.history.Turn.{Turn}
 use Rattle.cops_gate.specs.Rule.{Met}
-use Rattle.cops_gate.specs.Seats.{AreMadeBy, HasAllOf}
+use Rattle.cops_gate.specs.Seats.{AreMadeBy, HasAllOf, all_spent}
+use Rattle.cops_gate.proofs.Accounts.{met_left, met_right}
 use Rattle.cops_gate.proofs.Ending.{all_joined, all_weaker}
 use Rattle.cops_gate.proofs.Keeps.{there_at}
 use Rattle.cops_model.specs.Cluster.{has_node, has_stream}
+use Rattle.cops_model.specs.Place.{node_number}
 use Rattle.cops_model.specs.declared.calls.NodeCall.{NodeCall}
+use Rattle.cops_model.specs.declared.calls.NodeId.{NodeId}
 use Rattle.cops_model.specs.declared.calls.NodeReply.{NodeReply}
 use Rattle.cops_node.specs.Clusters.{new_shared}
 use Rattle.cops_node.specs.Parts.{Shared, IsMachineTurn}
@@ -31,8 +34,8 @@ use Rattle.cops_service.proofs.Desks.{read_at}
 use Rattle.cops_history.specs.Turns.{Turn as CallTurn}
 use Rattle.cops_served.specs.Conversations.{MakesTurns, turns_of_told}
 use Rattle.cops_whole.specs.Seats.{MakesAll, SlotActor}
-use Rattle.cops_whole.specs.ServedBy.{AreServedByActors, AreTicketed, ServesAllCausally}
-use Rattle.cops_whole.specs.Services.{IsCallAtShard, IsCrewRun, IsNumbered, SeatActors, SeatDid, actors_numbered, past_numbers}
+use Rattle.cops_whole.specs.ServedBy.{AreServedByActors, HasTicketsLeft, ServesAllCausally}
+use Rattle.cops_whole.specs.Services.{IsCallAtShard, IsCrewRun, IsNumbered, IsTurnAtShard, SeatActors, SeatDid, actors_numbered, past_numbers}
 use Rattle.cops_whole.specs.Threads.{AreCallsOfActors}
 use Rattle.cops_whole.proofs.Crews.{run_of_crew}
 use Rattle.cops_whole.proofs.Histories.{how_many, opened_at}
@@ -94,15 +97,60 @@ module _ (config : Config) (cluster : Gates Shared) where
   acted : (Does : NodeSeat → NodeSeat → Type 0) → ((first last : NodeSeat) → Does first last → Calls first last) → (seat : NodeSeat) → HasJustDone cluster Does seat → Acted seat
   acted Does as_calls seat done = record { first = done.first; no_turn = done.no_turn; calls = as_calls done.first seat done.does }
 
-  -- ---- its number
+  -- ---- its calls were turns
 
-  number_after : (slot : ℕ) (turns : List CallTurn) (old new : NodeSeat) → MakesTurns (IsCallAtShard config cluster) slot old turns new → new.number ≡ old.number
-  number_after slot [] old new same = ap (λ (s : NodeSeat). s.number) same
-  number_after slot (t ∷ turns) old new (mid, call, later) = number_after slot turns mid new later ∙ call.1.same.1
+  abbrev MadeCalls : ℕ → NodeSeat → List CallTurn → NodeSeat → Type 0
+  MadeCalls slot = MakesTurns (IsCallAtShard config cluster) slot
 
-  number_stays : (actors : List SlotActor) (old new : NodeSeat) → MakesAll (IsCallAtShard config cluster) old actors new → new.number ≡ old.number
-  number_stays [] old new same = ap (λ (s : NodeSeat). s.number) same
-  number_stays (a ∷ actors) old new (mid, made, later) = number_stays actors mid new later ∙ number_after a.slot (turns_of_told a.did) old mid made
+  -- the seat keeps its number, and remembers at which nodes it met the last ticket
+  record StaysSeat (old new : NodeSeat) : Type 0 where
+    number : new.number ≡ old.number
+    met : (node : ℕ) → Met node old.spent → Met node new.spent
+
+  same_seat : (old new : NodeSeat) → new ≡ old → StaysSeat old new
+  same_seat old new same = record { number = ap (λ (s : NodeSeat). s.number) same; met = λ node. subst (λ (s : NodeSeat). Met node s.spent) (sym same) }
+
+  later_seat : (old mid new : NodeSeat) → StaysSeat old mid → StaysSeat mid new → StaysSeat old new
+  later_seat old mid new first second = record { number = second.number ∙ first.number; met = λ node met. second.met node (first.met node met) }
+
+  after_turns : (slot : ℕ) (turns : List CallTurn) (old new : NodeSeat) → MadeCalls slot old turns new → StaysSeat old new
+  after_turns slot [] old new same = same_seat old new same
+  after_turns slot (t ∷ turns) old new (mid, call, later) = later_seat old mid new (record { number = call.1.same.1; met = call.1.met }) (after_turns slot turns mid new later)
+
+  after_all : (actors : List SlotActor) (old new : NodeSeat) → MakesAll (IsCallAtShard config cluster) old actors new → StaysSeat old new
+  after_all [] old new same = same_seat old new same
+  after_all (a ∷ actors) old new (mid, made, later) = later_seat old mid new (after_turns a.slot (turns_of_told a.did) old mid made) (after_all actors mid new later)
+
+  -- the seat met no last ticket
+  abbrev HasMetNone : NodeSeat → Type 0
+  HasMetNone seat = (node : ℕ) → Met node seat.spent → ⊥
+
+  turned : (old new : NodeSeat) (id : NodeId) (slot moment : ℕ) (call : NodeCall) (reply : NodeReply) → HasMetNone new → IsCallAtShard config cluster old id slot moment call reply new → IsTurnAtShard config cluster old id slot moment call reply new
+  turned old new id slot moment call reply none (below, told) = (
+    below,
+    (
+      told.same.1,
+      elim (told.grows) [
+        | inl grows ↦ inl grows
+        | inr other ↦ elim other [
+          | inl lacking ↦ inr lacking
+          | inr spent ↦ absurd (none (node_number cluster.shards id) spent.2)
+        ]
+      ],
+    ),
+  )
+
+  turns_turned : (slot : ℕ) (turns : List CallTurn) (old new : NodeSeat) → HasMetNone new → MadeCalls slot old turns new → MakesTurns (IsTurnAtShard config cluster) slot old turns new
+  turns_turned slot [] old new none same = same
+  turns_turned slot (t ∷ turns) old new none (mid, call, later) =
+      let rest = after_turns slot turns mid new later in
+      (mid, turned old mid t.node slot t.moment t.call t.reply (λ node met. none node (rest.met node met)) call, turns_turned slot turns mid new none later)
+
+  all_turned : (actors : List SlotActor) (old new : NodeSeat) → HasMetNone new → MakesAll (IsCallAtShard config cluster) old actors new → MakesAll (IsTurnAtShard config cluster) old actors new
+  all_turned [] old new none same = same
+  all_turned (a ∷ actors) old new none (mid, made, later) =
+      let rest = after_all actors mid new later in
+      (mid, turns_turned a.slot (turns_of_told a.did) old mid (λ node met. none node (rest.met node met)) made, all_turned actors mid new none later)
 
   -- ---- all seats
 
@@ -114,22 +162,31 @@ module _ (config : Config) (cluster : Gates Shared) where
   numbers_are [] all = refl
   numbers_are (s ∷ seats) all = ap (λ ns. s.number ∷ ns) (numbers_are seats all.1)
 
-  all_did : (history : NodeLog) (seats : List NodeSeat) (all : AllByRecursion Acted seats) → AllByRecursion (HasAllOf history) seats → AreTicketed (crew_of seats all) →
+  all_did : (history : NodeLog) (seats : List NodeSeat) (all : AllByRecursion Acted seats) → AllByRecursion (HasAllOf history) seats → AllByRecursion HasMetNone seats →
       AllByRecursion (λ (s : SeatActors). SeatDid config cluster history s.number s.actors) (crew_of seats all)
-  all_did history [] all seen ticketed = tt
-  all_did history (s ∷ seats) all seen ticketed = (
+  all_did history [] all seen none = tt
+  all_did history (s ∷ seats) all seen none = (
     record {
       first = all.0.first;
       last = s;
-      number_is = sym (number_stays all.0.calls.actors all.0.first s all.0.calls.made);
+      number_is = sym (after_all all.0.calls.actors all.0.first s all.0.calls.made).number;
       no_turn = all.0.no_turn;
-      made = all.0.calls.made;
+      made = all_turned all.0.calls.actors all.0.first s none.0 all.0.calls.made;
       behave = all.0.calls.behave;
-      ticketed = ticketed.0;
       all_of = seen.0;
     },
-    all_did history seats all.1 seen.1 ticketed.1,
+    all_did history seats all.1 seen.1 none.1,
   )
+
+-- ---- no seat met the last ticket
+
+-- a seat that met none has no seat that met one among those that ended into it
+met_none : (seats : List NodeSeat) → ((node : ℕ) → Met node (all_spent [] seats) → ⊥) → AllByRecursion (λ (s : NodeSeat). (node : ℕ) → Met node s.spent → ⊥) seats
+met_none [] none = tt
+met_none (s ∷ seats) none = (
+  (λ node met. none node (met_left node s.spent (all_spent [] seats) met)),
+  met_none seats (λ node met. none node (met_right node s.spent (all_spent [] seats) met)),
+)
 
 -- ---- who made the turns
 
@@ -180,16 +237,19 @@ module _ {M : Type 0} (Gives : M → ℕ → M → Type 0) (moments : M) (config
   legal_there : (number : ℕ) → number < config.data_centres * config.shards → IsLegal IsMachineTurn (new_shared config number) (turns_at number history)
   legal_there number within = let node = there_at nodes number (subst (λ n. number < n) (sym node_count) within) in (node.0, left_there number node.0 within node.1)
 
-  run : AreTicketed all_crew → IsCrewRun config cluster history all_crew
-  run ticketed = record {
+  none_met : HasTicketsLeft history → AllByRecursion (HasMetNone config cluster) seats
+  none_met few = met_none seats (λ node met. let below = few node in let full = served.exhausted node (subst (Met node) (sym served.seen.spent) met) in omega (arith, below, full))
+
+  run : HasTicketsLeft history → IsCrewRun config cluster history all_crew
+  run few = record {
     gate = record { shards = served.shards; opened = served.opened; legal = legal_there };
-    did = all_did config cluster history seats all_acted (subst (λ h. AllByRecursion (HasAllOf h) seats) (sym served.whole) served.seen.all) ticketed;
+    did = all_did config cluster history seats all_acted (subst (λ h. AllByRecursion (HasAllOf h) seats) (sym served.whole) served.seen.all) (none_met few);
     seated = all_numbered all_crew history (subst (λ numbers. AreMadeBy numbers history) (sym (numbers_are config cluster seats all_acted)) served.made);
   }
 
-  causally : AreTicketed all_crew → ServesAllCausally config history nodes all_crew
-  causally ticketed =
-      let service = run_of_crew config cluster history all_crew (run ticketed) in
+  causally : HasTicketsLeft history → ServesAllCausally config history nodes all_crew
+  causally few =
+      let service = run_of_crew config cluster history all_crew (run few) in
       let all = tenants_of_service config cluster history (past_numbers all_crew) (actors_numbered all_crew) service some_shards in
       record {
         log = all.0;

@@ -17,7 +17,6 @@ use Rattle.cops_model.specs.declared.calls.NodeReply.TheVariants.{Refused}
 use Rattle.cops_node.specs.Clusters.{new_shared}
 use Rattle.cops_node.specs.Lacking.{MayLack}
 use Rattle.cops_node.specs.Parts.{Shared, IsMachineTurn}
-use Rattle.cops_service.specs.Desks.{IsDeskCall}
 use Rattle.cops_service.specs.Gates.{Gates, openings}
 use Rattle.cops_service.specs.Slots.{NodeLog}
 use Rattle.cops_history.specs.History.{all_done, seat_in}
@@ -31,7 +30,7 @@ use Rattle.cops_whole.proofs.Histories.{ArePlaced, as_kept, how_many, leads_logg
 use Rattle.cops_whole.proofs.Legal.{left_by_acts}
 use Rattle.cops_whole.proofs.NoOps.{gates_whole, leads_filled}
 use Rattle.cops_whole.proofs.Seated.{served_causally}
-use Rattle.cops_whole.proofs.SeatCalls.{AllLacked, Grown, all_grown, all_lacked, lacked_at, logged_turn}
+use Rattle.cops_whole.proofs.SeatCalls.{AllLacked, Grown, IsTurnByNumber, all_grown, all_lacked, lacked_at, logged_turn}
 
 -- the nodes of a log are those of the log that gates keep
 nodes_there : (P : ℕ → Type 0) (log : List WholeTurn) → AllByRecursion (λ (w : WholeTurn). P w.node) (kept_log log) → AllByRecursion (λ (w : WholeTurn). P w.node) log
@@ -77,11 +76,11 @@ module _ (config : Config) (cluster : Gates Shared) (history : NodeLog) (seats :
   none_first seat did = ap (λ ts. kept_log (logged_history ts)) (subst (λ n. turns_of n did.first.history ≡ []) did.number_is did.no_turn)
 
   -- its calls, and that they are at shards that exist
-  within_of : (seat : ℕ) (did : Did seat) → AllByRecursion (IsAtShards config) (actors seat) × MakesAll (IsDeskCall cluster) did.first (actors seat) did.last
-  within_of seat did = actors_within (IsDeskCall cluster) config (actors seat) did.first did.last did.made
+  within_of : (seat : ℕ) (did : Did seat) → AllByRecursion (IsAtShards config) (actors seat) × MakesAll (IsTurnByNumber cluster) did.first (actors seat) did.last
+  within_of seat did = actors_within (IsTurnByNumber cluster) config (actors seat) did.first did.last did.made
 
   grown_of : (seat : ℕ) (did : Did seat) → Grown config cluster run.gate.shards seat did.first (calls_of seat) did.last
-  grown_of seat did = all_grown config cluster run.gate.shards seat (actors seat) did.first did.last did.number_is did.ticketed (within_of seat did).1
+  grown_of seat did = all_grown config cluster run.gate.shards seat (actors seat) did.first did.last did.number_is (within_of seat did).1
 
   own_is : (seat : ℕ) (did : Did seat) → turns_of seat history ≡ turns_of seat did.last.history
   own_is seat did = subst (λ n. turns_of n history ≡ turns_of n did.last.history) (grown_of seat did).number_is did.all_of.1
@@ -117,7 +116,7 @@ module _ (config : Config) (cluster : Gates Shared) (history : NodeLog) (seats :
   lacking seat = by_number (λ list. AllLacked config cluster run.gate.shards seat history [] (flat_map (turns_by_actor config seat) list)) seat (λ within. inside (run.did seat within)) (λ past. tt)
     where
       inside : (did : Did seat) → AllLacked config cluster run.gate.shards seat history [] (calls_of seat)
-      inside did = all_lacked config cluster run.gate.shards seat history (actors seat) [] did.first did.last did.number_is (none_first seat did) did.all_of.0 did.ticketed (within_of seat did).1
+      inside did = all_lacked config cluster run.gate.shards seat history (actors seat) [] did.first did.last did.number_is (none_first seat did) did.all_of.0 (within_of seat did).1
 
   abbrev log : List WholeTurn
   log = filled.log

@@ -1,22 +1,17 @@
 -- The small cluster is one that a service ran.
-use Rattle.std.proofs.Common.{◌≡◌, ℕ, zero, suc, ◌+◌, ◌^◌, ◌<◌, ◌≤◌, [], ◌∷◌, length, inl, inr, refl, sym, subst, arith}
+use Rattle.std.proofs.Common.{◌≡◌, ℕ, zero, suc, ◌<◌, ◌≤◌, [], ◌∷◌, inl, inr, refl, sym, subst, arith}
 use Rattle.std.specs.Prelude.{None, Some}
 use mathlib.Core.Option.{some, some-injective, some-ne-none}
 use lib.ListN.{get_elem?}
-use Rattle.cops_gate.specs.declared.board.Opening.{Opening}
 use Rattle.cops_gate.specs.History.{IsLegal, IsWhole, turn, turns_at}
-use Rattle.cops_gate.specs.Plays.{HasRoom}
 use Rattle.cops_gate.specs.Seats.{Origin}
-use Rattle.cops_node.specs.Clusters.{new_nodes, new_shared}
+use Rattle.cops_node.specs.Clusters.{new_shared}
 use Rattle.cops_node.specs.Parts.{Shared, IsMachineTurn}
-use Rattle.cops_service.specs.Desks.{IsDeskCall}
 use Rattle.cops_service.specs.Gates.{openings}
-use Rattle.cops_service.specs.Slots.{NodeLog}
-use Rattle.cops_whole.specs.Services.{IsServiceRun, SeatDid}
+use Rattle.cops_whole.specs.Services.{IsServiceRun, IsTurnAtNode, SeatDid}
 use Rattle.cops_whole.specs.SmallCluster.{small_actors, small_collection, small_config, small_put, small_tenant}
 use Rattle.cops_whole.specs.SmallService.{lacking_actors, lacking_collection, lacking_history, small_beginning, small_entry, small_gates, small_history, small_seat}
 use Rattle.cops_whole.specs.Whole.{place_there}
-use Rattle.cops_whole.proofs.Nodes.{some_same}
 use Rattle.cops_whole.proofs.SmallCluster.{all_behave, collect_is, collected, nothing, put_is, written}
 
 abbrev opened : Shared
@@ -34,20 +29,11 @@ module _ (gate : Origin Shared) where
   whole_history : IsWhole IsMachineTurn (openings (small_gates gate)) small_history
   whole_history = ((omega arith, (omega arith, tt)), at_one (λ n first. IsLegal IsMachineTurn first (turns_at n small_history)) (collected, (written, put_is, (collected, collect_is, refl))))
 
-  abbrev opening : Opening Shared
-  opening = record { states = (new_nodes small_config).nodes; ticket = 0 }
+  puts : IsTurnAtNode (small_gates gate) 0 (small_seat gate 0 []) 0 small_put.moment small_put.call small_put.reply (small_seat gate 0 small_beginning)
+  puts = (refl, inl (whole_beginning, ([], refl), refl))
 
-  has_room : (history : NodeLog) → length (turns_at 0 history) ≤ 2 ^ 62 → HasRoom (Some opening) history
-  has_room history few other is n first at =
-      let same : opening ≡ other = some_same opening other is in
-      subst (λ (o : Opening Shared). o.ticket + length (turns_at n history) ≤ 2 ^ 62) same
-      (at_one (λ m node. 0 + length (turns_at m history) ≤ 2 ^ 62) (omega (arith, few)) n first (subst (λ (o : Opening Shared). get_elem? o.states n ≡ some first) (sym same) at))
-
-  puts : IsDeskCall (small_gates gate) (small_seat gate 0 []) small_put.node 0 small_put.moment small_put.call small_put.reply (small_seat gate 0 small_beginning)
-  puts = record { grows = inl (whole_beginning, ([], refl), refl); same = (refl, refl); account = refl; room = has_room small_beginning (omega arith) }
-
-  collects : IsDeskCall (small_gates gate) (small_seat gate 1 small_beginning) small_collection.node 1 small_collection.moment small_collection.call small_collection.reply (small_seat gate 1 small_history)
-  collects = record { grows = inl (whole_history, ([], refl), refl); same = (refl, refl); account = refl; room = has_room small_history (omega arith) }
+  collects : IsTurnAtNode (small_gates gate) 0 (small_seat gate 1 small_beginning) 1 small_collection.moment small_collection.call small_collection.reply (small_seat gate 1 small_history)
+  collects = (refl, inl (whole_history, ([], refl), refl))
 
   all_did : (seat : ℕ) → seat < 2 → SeatDid small_config (small_gates gate) small_history seat (small_actors seat)
   all_did zero within = record {
@@ -57,7 +43,6 @@ module _ (gate : Origin Shared) where
     no_turn = refl;
     made = (small_seat gate 0 small_beginning, (small_seat gate 0 small_beginning, (omega arith, puts), refl), refl);
     behave = all_behave 0;
-    ticketed = ((refl, tt), tt);
     all_of = ((turn 1 0 (Some (small_entry 1 small_collection)) ∷ [], refl), refl);
   }
   all_did (suc zero) within = record {
@@ -67,7 +52,6 @@ module _ (gate : Origin Shared) where
     no_turn = refl;
     made = (small_seat gate 1 small_history, (small_seat gate 1 small_history, (omega arith, collects), refl), refl);
     behave = all_behave 1;
-    ticketed = ((refl, tt), tt);
     all_of = (([], refl), refl);
   }
   all_did (suc (suc seat)) within = absurd (omega (arith, within))
@@ -89,13 +73,8 @@ module _ (gate : Origin Shared) where
   whole_lacking : IsWhole IsMachineTurn (openings (small_gates gate)) lacking_history
   whole_lacking = ((omega arith, (omega arith, tt)), at_one (λ n first. IsLegal IsMachineTurn first (turns_at n lacking_history)) (written, (written, put_is, (written, refl, refl))))
 
-  lacks : IsDeskCall (small_gates gate) (small_seat gate 1 small_beginning) lacking_collection.node 1 lacking_collection.moment lacking_collection.call lacking_collection.reply (small_seat gate 1 lacking_history)
-  lacks = record {
-    grows = inr (inl (refl, (whole_lacking, ([], refl), refl), (small_beginning, opened, written, refl, refl, (written, put_is, refl), (place_there small_config (small_tenant 2) 0, refl, refl))));
-    same = (refl, refl);
-    account = refl;
-    room = has_room lacking_history (omega arith);
-  }
+  lacks : IsTurnAtNode (small_gates gate) 0 (small_seat gate 1 small_beginning) 1 lacking_collection.moment lacking_collection.call lacking_collection.reply (small_seat gate 1 lacking_history)
+  lacks = (refl, inr (refl, (whole_lacking, ([], refl), refl), (small_beginning, opened, written, refl, refl, (written, put_is, refl), (place_there small_config (small_tenant 2) 0, refl, refl))))
 
   did_lacking : (seat : ℕ) → seat < 2 → SeatDid small_config (small_gates gate) lacking_history seat (lacking_actors seat)
   did_lacking zero within = record {
@@ -105,7 +84,6 @@ module _ (gate : Origin Shared) where
     no_turn = refl;
     made = (small_seat gate 0 small_beginning, (small_seat gate 0 small_beginning, (omega arith, puts), refl), refl);
     behave = all_behave 0;
-    ticketed = ((refl, tt), tt);
     all_of = ((turn 1 0 None ∷ [], refl), refl);
   }
   did_lacking (suc zero) within = record {
@@ -115,7 +93,6 @@ module _ (gate : Origin Shared) where
     no_turn = refl;
     made = (small_seat gate 1 lacking_history, (small_seat gate 1 lacking_history, (omega arith, lacks), refl), refl);
     behave = ((small_tenant 2, refl, (None, (refl, refl, refl), tt)), tt);
-    ticketed = ((refl, tt), tt);
     all_of = (([], refl), refl);
   }
   did_lacking (suc (suc seat)) within = absurd (omega (arith, within))

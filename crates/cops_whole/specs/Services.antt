@@ -1,18 +1,20 @@
 -- A service that ran: one history of all turns at its nodes, and what each seat did.
-use Rattle.std.specs.Prelude.{◌≡◌, ◌⊎◌, ℕ, suc, ◌*◌, ◌<◌, ◌≤◌, ◌==◌, max, Bool, true, false, map, List, [], ◌∷◌, Option, Some, None, if◌then◌else◌}
+use Rattle.std.specs.Prelude.{◌≡◌, ◌⊎◌, ℕ, suc, ◌*◌, ◌<◌, ◌≤◌, ◌==◌, max, map, List, [], ◌∷◌, Option, Some, None, if◌then◌else◌}
 use Rattle.std.specs.List.{AllByRecursion}
 use Rattle.cops_types.specs.declared.configs.Config.{Config}
 use Rattle.cops_types.specs.declared.configs.Tenant.{Tenant}
-use Rattle.cops_types.specs.declared.faults.Fault.TheVariants.{GateSpent}
+use Rattle.cops_types.specs.declared.faults.Fault.TheVariants.{OutOfMemory}
 use Rattle.cops_types.specs.TenantConfig.{tenant_config}
 use Rattle.cops_gate.specs.declared.history.Turn.{Turn}
-use Rattle.cops_gate.specs.History.{IsLegal, Leads, turns_at}
-use Rattle.cops_gate.specs.Seats.{HasAllOf}
+use Rattle.cops_gate.specs.History.{IsLegal, Leads, LeavesLacking, entry, turns_at}
+use Rattle.cops_gate.specs.Seats.{Extends, HasAllOf}
 use Rattle.cops_model.specs.declared.calls.NodeCall.{NodeCall}
 use Rattle.cops_model.specs.declared.calls.NodeId.{NodeId}
 use Rattle.cops_model.specs.declared.calls.NodeReply.{NodeReply}
 use Rattle.cops_model.specs.declared.calls.NodeReply.TheVariants.{Refused}
+use Rattle.cops_model.specs.Place.{node_number}
 use Rattle.cops_node.specs.Clusters.{new_nodes, new_shared}
+use Rattle.cops_node.specs.Lacking.{MayLack}
 use Rattle.cops_node.specs.Parts.{Shared, IsMachineTurn}
 use Rattle.cops_service.specs.Desks.{IsDeskCall, NodeSeat}
 use Rattle.cops_service.specs.Gates.{Gates, HasNoTurn, openings}
@@ -20,7 +22,7 @@ use Rattle.cops_service.specs.Slots.{NodeEntry, NodeLog}
 use Rattle.cops_history.specs.History.{AreActs, all_done, seat_in}
 use Rattle.cops_history.specs.Turns.{node_numbered}
 use Rattle.cops_whole.specs.NoOps.{kept_log}
-use Rattle.cops_whole.specs.Seats.{AllRecorded, BehavesInSlot, IsServedCluster, MakesAll, SlotActor, own_commands}
+use Rattle.cops_whole.specs.Seats.{BehavesInSlot, IsServedCluster, MakesAll, SlotActor, own_commands}
 use Rattle.cops_whole.specs.Whole.{CallEntry, WholeTurn, Represents, own_log, place_there, whole_turn}
 
 -- an entry of a history that a gate keeps, in a log
@@ -32,14 +34,20 @@ logged_entry (Some e) = Some (record { slot = e.slot; moment = e.moment; call = 
 abbrev pub logged_history : NodeLog → List WholeTurn
 logged_history history = map (λ t. whole_turn t.seat t.node (logged_entry t.entry)) history
 
--- the node's tickets are exhausted, and it made no turn
-abbrev pub was_refused_ticket : NodeReply → Bool
-was_refused_ticket (Refused GateSpent) = true
-was_refused_ticket reply = false
-
 -- a call at a desk, at a shard that exists
 abbrev pub IsCallAtShard : Config → Gates Shared → NodeSeat → NodeId → ℕ → ℕ → NodeCall → NodeReply → NodeSeat → Type 0
 IsCallAtShard config cluster old id slot moment call reply new = (id.shard < config.shards) × IsDeskCall cluster old id slot moment call reply new
+
+-- a call of a seat that got a ticket: the node of this number made a turn, a no-op turn if memory ran out
+abbrev pub IsTurnAtNode : Gates Shared → ℕ → NodeSeat → ℕ → ℕ → NodeCall → NodeReply → NodeSeat → Type 0
+IsTurnAtNode cluster node old slot moment call reply new =
+    (new.number ≡ old.number)
+    × (Extends IsMachineTurn (openings cluster) node old (Some (entry slot moment call reply)) new
+    ⊎ (reply ≡ Refused OutOfMemory) × Extends IsMachineTurn (openings cluster) node old None new × LeavesLacking IsMachineTurn MayLack (openings cluster) old.number node slot call new.history)
+
+-- such a call at a shard that exists
+abbrev pub IsTurnAtShard : Config → Gates Shared → NodeSeat → NodeId → ℕ → ℕ → NodeCall → NodeReply → NodeSeat → Type 0
+IsTurnAtShard config cluster old id slot moment call reply new = (id.shard < config.shards) × IsTurnAtNode cluster (node_number cluster.shards id) old slot moment call reply new
 
 -- The seat of this number had made no turn. Then it made the calls of these actors at a desk, one after another. Each actor behaves, and each of its
 -- calls got a ticket. The history has all that the seat has seen as a prefix, and no other turn of it.
@@ -48,9 +56,8 @@ pub record SeatDid (config : Config) (cluster : Gates Shared) (history : NodeLog
   pub last : NodeSeat
   pub number_is : first.number ≡ seat
   pub no_turn : HasNoTurn first
-  pub made : MakesAll (IsCallAtShard config cluster) first actors last
+  pub made : MakesAll (IsTurnAtShard config cluster) first actors last
   pub behave : AllByRecursion (BehavesInSlot config) actors
-  pub ticketed : AllRecorded was_refused_ticket actors
   pub all_of : HasAllOf history last
 
 -- The gate opened with the new nodes of the configuration, and the history is legal at each node.
