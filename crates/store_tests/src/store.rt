@@ -1,4 +1,5 @@
 //! The records of a store.
 
+mod in_turn;
 mod memory;
 mod records;

@@ -24,7 +24,7 @@ pub(crate) fn store(rt: &impl Abort, alloc: Global, tenants: usize) -> Store
 }
 
 /// Inserts within the quota that all tests have.
-fn keep(
+pub(crate) fn keep(
     rt: &impl Abort,
     alloc: Global,
     store: &mut Store,
@@ -85,7 +85,14 @@ fn assert_clocks(rt: &impl Abort, store: &Store, slot: usize, name: &[u8], there
 }
 
 /// Collects and asserts how many records go.
-fn collect(rt: &impl Abort, store: &mut Store, slot: usize, now: u64, time: u64, count: u64)
+pub(crate) fn collect(
+    rt: &impl Abort,
+    store: &mut Store,
+    slot: usize,
+    now: u64,
+    time: u64,
+    count: u64,
+)
     requires { slot < store.old.tenants }
     ensures { store.new.tenants ≡ store.old.tenants }
 {
