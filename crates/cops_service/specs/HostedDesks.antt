@@ -2,8 +2,9 @@
 use Rattle.std.specs.Prelude.{◌≡◌, ℕ, zero, suc, ◌<◌, ◌≤◌, IsTrue, List, length, map, replicate, Result, Ok, Err}
 use Rattle.std.specs.declared.alloc.AllocError.{AllocError}
 use Rattle.cops_types.specs.declared.configs.Tenant.{Tenant}
-use Rattle.cops_types.specs.declared.faults.Fault.{Fault}
 use Rattle.cops_types.specs.declared.faults.Fault.TheVariants.{OutOfMemory, GateSpent, Torn}
+use Rattle.cops_types.specs.declared.request_errors.RequestError.{RequestError}
+use Rattle.cops_types.specs.declared.request_errors.RequestError.TheVariants as request_error
 use Rattle.cops_types.specs.Version.{last_clock}
 use Rattle.cops_gate.specs.Seats.{Known}
 use Rattle.cops_model.specs.declared.calls.NodeCall.{NodeCall}
@@ -97,21 +98,22 @@ IsClosedAtFirst cluster slot n = CallsFirst cluster slot Close (λ reply. Unit {
 abbrev pub IsClosedAtAll : Gates Hosted → ℕ → HostedSeat → HostedSeat → Type 0
 IsClosedAtAll cluster slot = IsClosedAtFirst cluster slot (length (openings cluster))
 
--- why the reply to an admission isn't that the tenant is admitted
-abbrev pub IsRefusal : SlotReply → Fault → Type 0
-IsRefusal told.Admitted fault = ⊥
-IsRefusal (told.Refused reason) fault = fault ≡ reason
-IsRefusal (told.Own reply) fault = fault ≡ Torn
-IsRefusal told.Closed fault = fault ≡ Torn
+-- why the answer to an admission isn't that the tenant is admitted
+abbrev pub IsRefusal : Result SlotReply AllocError → RequestError → Type 0
+IsRefusal (Ok told.Admitted) error = ⊥
+IsRefusal (Ok (told.Refused fault)) error = error ≡ request_error.Refused fault
+IsRefusal (Ok (told.Own reply)) error = error ≡ request_error.Refused Torn
+IsRefusal (Ok told.Closed) error = error ≡ request_error.Refused Torn
+IsRefusal (Err lack) error = error ≡ request_error.OutOfMemory
 
 -- A node refuses the tenant for this reason. The slot is closed again at those where the tenant was admitted before
-pub record IsTakenBack (cluster : Gates Hosted) (slot life : ℕ) (tenant : Tenant) (fault : Fault) (old new : HostedSeat) : Type 0 where
+pub record IsTakenBack (cluster : Gates Hosted) (slot life : ℕ) (tenant : Tenant) (error : RequestError) (old new : HostedSeat) : Type 0 where
   pub refuser : ℕ
   pub is_there : refuser < length (openings cluster)
   pub tried : HostedSeat
   pub refused : HostedSeat
-  pub reply : SlotReply
+  pub answer : Result SlotReply AllocError
   pub admitted : CallsFirst cluster slot (Admit life tenant) (λ reply. reply ≡ told.Admitted) refuser old tried
-  pub refuses : IsHostCall cluster slot (Admit life tenant) refuser reply tried refused
-  pub reason : IsRefusal reply fault
+  pub refuses : IsHostCall cluster slot (Admit life tenant) refuser (told_at_slot answer) tried refused
+  pub reason : IsRefusal answer error
   pub closed : IsClosedAtFirst cluster slot refuser refused new

@@ -1,5 +1,6 @@
 //! Admissions and closes at all nodes of a running cluster.
-ghost use Rattle.std.specs.Prelude.{◌≡◌, ◌<◌, ◌≤◌, ℕ, length, IfErr, IfOk, OnOk};
+ghost use Rattle.std.specs.Prelude.{◌≡◌, ◌<◌, ◌≤◌, ℕ, length, IfErr, OnOk, Result};
+ghost use Rattle.std.specs.declared.alloc.AllocError.{AllocError as NoMemory};
 ghost use Rattle.cops_types.specs.Version.{last_clock};
 ghost use Rattle.cops_node.specs.declared.Home.{Home};
 ghost use Rattle.cops_node.specs.declared.hosted.SlotCall.TheVariants.{Admit};
@@ -11,7 +12,7 @@ ghost use Rattle.cops_service.specs.HostedDesks.{IsAdmittedAtAll, IsClosedAtAll,
 
 use crate::hosted_desk::{HostedDesk, RefusesSpent};
 use cops_node::{SlotCall, SlotReply};
-use cops_types::{Fault, Tenant};
+use cops_types::{Fault, RequestError, Tenant};
 use std::alloc::AllocError;
 use std::sync::Wait;
 
@@ -35,20 +36,20 @@ impl<R: Wait> HostedDesk<'_, R> {
         slot: u64,
         life: u64,
         tenant: &Tenant,
-    ) -> Result<(), Fault>
+    ) -> Result<(), RequestError>
         requires node { number < length (openings self.old.cluster.now) }
         requires clock { tenant.now.first_clock ≤ last_clock }
         ensures cluster { self.new.cluster.now ≡ self.old.cluster.now }
         ensures seat { self.new.seat.ghost_name ≡ self.old.seat.ghost_name }
         ensures ok { OnOk result (IsHostCall self.old.cluster.now slot (Admit life tenant.now) number Admitted self.old.seat.now self.new.seat.now) }
-        ensures refused { IfErr result (λ fault. (reply : Told) × IsRefusal reply fault × IsHostCall self.old.cluster.now slot (Admit life tenant.now) number reply self.old.seat.now self.new.seat.now) }
+        ensures refused { IfErr result (λ error. (answer : Result Told NoMemory) × IsRefusal answer error × IsHostCall self.old.cluster.now slot (Admit life tenant.now) number (told_at_slot answer) self.old.seat.now self.new.seat.now) }
     {
         let tenant = *tenant;
         match self.tell(number, slot, SlotCall::Admit { life, tenant }) {
             Ok(SlotReply::Admitted) => Ok(()),
-            Ok(SlotReply::Refused(fault)) => Err(fault),
-            Ok(SlotReply::Own(_) | SlotReply::Closed) => Err(Fault::Torn),
-            Err(error) => Err(Fault::from(error)),
+            Ok(SlotReply::Refused(fault)) => Err(RequestError::Refused(fault)),
+            Ok(SlotReply::Own(_) | SlotReply::Closed) => Err(RequestError::Refused(Fault::Torn)),
+            Err(error) => Err(RequestError::from(error)),
         }
     }
 
@@ -65,19 +66,24 @@ impl<R: Wait> HostedDesk<'_, R> {
     }
 
     /// Gives a slot to a tenant, in a life of this number: at all nodes, or at none. If a node refuses, the slot is closed
-    /// again at those that admitted the tenant, and the node's reason is returned: `NoSlot` if the slot isn't free there,
-    /// `OutOfMemory`, or `GateSpent`. Nodes serve other calls between these turns.
-    pub fn admit_at_all(&mut self, slot: u64, life: u64, tenant: &Tenant) -> Result<(), Fault>
+    /// again at those that admitted the tenant, and the node's reason is returned: that memory ran out there, `NoSlot` if the
+    /// slot isn't free there, or `GateSpent`. Nodes serve other calls between these turns.
+    pub fn admit_at_all(
+        &mut self,
+        slot: u64,
+        life: u64,
+        tenant: &Tenant,
+    ) -> Result<(), RequestError>
         requires clock { tenant.now.first_clock ≤ last_clock }
         ensures cluster { self.new.cluster.now ≡ self.old.cluster.now }
         ensures seat { self.new.seat.ghost_name ≡ self.old.seat.ghost_name }
         ensures ok { OnOk result (IsAdmittedAtAll self.old.cluster.now slot life tenant.now self.old.seat.now self.new.seat.now) }
-        ensures refused { IfErr result (λ fault. IsTakenBack self.old.cluster.now slot life tenant.now fault self.old.seat.now self.new.seat.now) }
+        ensures refused { IfErr result (λ error. IsTakenBack self.old.cluster.now slot life tenant.now error self.old.seat.now self.new.seat.now) }
     {
         for number in 0..self.cluster.count() {
-            if let Err(fault) = self.admit_at(number, slot, life, tenant) {
+            if let Err(error) = self.admit_at(number, slot, life, tenant) {
                 self.close_at_first(number, slot);
-                return Err(fault);
+                return Err(error);
             }
         }
         Ok(())

@@ -8,7 +8,7 @@ use crate::hosted_tests::{beta, put_in};
 use crate::tests::config;
 use crate::{Cluster, HostedDesk, LifeDesk};
 use cops_node::{NodeId, SlotCall, SlotReply, has_clocks};
-use cops_types::{Config, Fault};
+use cops_types::{Config, Fault, RequestError};
 use std::alloc::Global;
 use std::process::Abort;
 use std::sync::Wait;
@@ -28,7 +28,10 @@ pub(crate) fn assert_clocks<R: Wait + Abort>(
 }
 
 // Gives slot 2 to beta at all nodes, in the life of these nodes.
-pub(crate) fn admit<R: Wait + Abort>(rt: &R, nodes: &mut LifeDesk<'_, R>) -> Result<(), Fault>
+pub(crate) fn admit<R: Wait + Abort>(
+    rt: &R,
+    nodes: &mut LifeDesk<'_, R>,
+) -> Result<(), RequestError>
     ensures { (nodes.new.desk.cluster.now ≡ nodes.old.desk.cluster.now) × (nodes.new.desk.seat.ghost_name ≡ nodes.old.desk.seat.ghost_name) }
 {
     let life = nodes.life;
@@ -65,7 +68,7 @@ fn assert_taken_back<R: Wait + Abort>(rt: &R, alloc: Global, nodes: &mut LifeDes
 {
     admit_at_second(rt, nodes);
     nodes.life = 2;
-    assert!(rt; admit(rt, nodes) == Err(Fault::NoSlot));
+    assert!(rt; admit(rt, nodes) == Err(RequestError::Refused(Fault::NoSlot)));
     assert_clocks(rt, alloc, nodes, (0, 0));
     nodes.life = 1;
     assert_clocks(rt, alloc, nodes, (0, 1));

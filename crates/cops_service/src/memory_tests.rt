@@ -156,8 +156,8 @@ fn assert_comes_to_all<R: Wait + Abort>(rt: &R, alloc: Global, nodes: &mut LifeD
     requires { (1 < (hosted_shape nodes.old.desk.cluster.now).data_centres) × ((hosted_shape nodes.old.desk.cluster.now).shards ≡ 1) }
     ensures { (nodes.new.desk.cluster.now ≡ nodes.old.desk.cluster.now) × (nodes.new.desk.seat.ghost_name ≡ nodes.old.desk.seat.ghost_name) }
 {
-    if let Err(fault) = hosting_tests::admit(rt, nodes) {
-        assert!(rt; fault == Fault::OutOfMemory);
+    if let Err(error) = hosting_tests::admit(rt, nodes) {
+        assert!(rt; error == RequestError::OutOfMemory);
         assert_clocks(rt, alloc, nodes, (0, 0));
         assert!(rt; hosting_tests::admit(rt, nodes) == Ok(()));
     }

@@ -2,7 +2,7 @@ use Rattle.std.proofs.Common.{◌≡◌, ◌<◌, ◌≤◌, ◌∙◌, arith, l
 use Rattle.cops_node.specs.declared.hosted.SlotCall.TheVariants.{Admit}
 use Rattle.cops_node.specs.declared.hosted.SlotReply.TheVariants.{Admitted}
 use Rattle.cops_service.specs.Gates.{openings}
-use Rattle.cops_service.specs.HostedDesks.{CallsFirst, IsClosedAtFirst, IsHostCall}
+use Rattle.cops_service.specs.HostedDesks.{CallsFirst, IsClosedAtFirst, IsHostCall, told_at_slot}
 use Rattle.cops_service.proofs.HostedDesks.{calls_more}
 use Rattle.cops_service.proofs.hosted_desk.HostedDesk.admit_at_all.Goals as goal
 
@@ -39,9 +39,9 @@ returns-in-Err-clause-refused g c =
       is_there = omega (arith, c.loop-number-test.true, c.count-number-end.ensures);
       tried = c.loop-number.self.seat.now;
       refused = c.admit_at.new.self.seat.now;
-      reply = told.0;
+      answer = told.0;
       admitted = inv.2;
-      refuses = subst (λ cluster. IsHostCall cluster c.args.slot call n told.0 c.loop-number.self.seat.now c.admit_at.new.self.seat.now) inv.0 told.2;
+      refuses = subst (λ cluster. IsHostCall cluster c.args.slot call n (told_at_slot told.0) c.loop-number.self.seat.now c.admit_at.new.self.seat.now) inv.0 told.2;
       reason = told.1;
       closed = subst (λ cluster. IsClosedAtFirst cluster c.args.slot n c.admit_at.new.self.seat.now c.close_at_first.new.self.seat.now) (c.admit_at.ensures.cluster ∙ inv.0) c.close_at_first.ensures.closed;
     }
