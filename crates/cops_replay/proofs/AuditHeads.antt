@@ -1,5 +1,5 @@
--- What a replay comes to in the head of a file of either layout, over lines as they are cut.
-use Rattle.std.proofs.Common.{◌≡◌, ℕ, zero, suc, ◌+◌, ◌<◌, ◌≤◌, ◌^◌, ◌-◌, Bool, true, false, ◌&&◌, nat_eq, min, List, [], ◌∷◌, ◌++◌, length, map, take, inl, inr, refl, sym, subst, ap, ◌∙◌, length-append, length-take, true≢false, arith}
+-- Heads of files of either layout, over lines as they are cut.
+use Rattle.std.proofs.Common.{◌≡◌, ℕ, zero, suc, ◌+◌, ◌<◌, ◌≤◌, ◌^◌, ◌-◌, Bool, true, false, ◌&&◌, nat_eq, cond, min, List, [], ◌∷◌, ◌++◌, length, take, inl, inr, refl, sym, subst, ap, ◌∙◌, length-append, length-take, true≢false, arith}
 use Rattle.std.specs.Prelude.{Option, Some, None, nat_lt, IsTrue}
 use Rattle.std.specs.Str.{bytes_eq}
 use Rattle.std.proofs.Math.Nat.{min-eq_left}
@@ -9,25 +9,21 @@ use Rattle.cops_types.specs.declared.configs.Tenant.{Tenant}
 use Rattle.cops_types.specs.Counts.{counted}
 use Rattle.cops_types.specs.Head.{Front, AtStart, Within, Begun, Follows, HeadReading, Whole, BadAt, is_begun, may_join, reading_from}
 use Rattle.cops_types.specs.HeadLines.{is_distinct, is_name}
-use Rattle.cops_script.specs.LineRules.{Run}
 use Rattle.cops_types.specs.Lines.{cut_line}
 use Rattle.cops_types.specs.OldHead.{last_old_clock, old_front_after, old_reading_from}
 use Rattle.cops_types.specs.Version.{last_clock}
 use Rattle.cops_types.proofs.FrontLemmas.{front_after-is}
 use Rattle.cops_types.proofs.HeadLemmas.{tenant_fits}
 use Rattle.cops_types.proofs.HeadLengths.{front_after-short}
-use Rattle.cops_types.proofs.WordLemmas.{both}
-use Rattle.cops_types.specs.Slots.{AreNamed}
+use Rattle.cops_types.proofs.WordLemmas.{both, bytes_from_test}
+use Rattle.cops_types.specs.Slots.{AreNamed, slot_of_name}
+use Rattle.cops_script.proofs.ApartTenants.{found_at, name_of, short_name}
 use Rattle.cops_script.proofs.HeadRuns as today
 use Rattle.cops_replay.specs.declared.layouts.Layout.{Layout}
 use Rattle.cops_replay.specs.declared.layouts.Layout.TheVariants.{Today, Early}
-use Rattle.cops_replay.specs.declared.replay_machine.ReplayScript.{ReplayScript}
-use Rattle.cops_replay.specs.declared.replay_machine.ReplayStage.{ReplayStage}
-use Rattle.cops_replay.specs.declared.replay_machine.ReplayStage.TheVariants.{OldHead, Head, Running}
 use Rattle.cops_replay.specs.AuditText.{layout_line}
-use Rattle.cops_replay.specs.Replayings.{Standing}
-use Rattle.cops_replay.specs.ReplayRules.{GoesOnBy, HeadAnswersBy, IsHeadBy, OldHeadAnswers, StartsFor, front_by, replay_answers_in, replay_rules, tells_today}
-use Rattle.cops_replay.specs.ReplayText.{longest_record}
+use Rattle.cops_replay.specs.FileHeads.{front_by, tells_layout}
+use Rattle.cops_replay.specs.ReplayText.{layout_of, longest_record}
 use Rattle.cops_replay.proofs.OldFronts.{OldFollows, old_front_after-is, old_front_after-short}
 
 pub by_test : {C : Type 0} (b : Bool) → (b ≡ true → C) → (b ≡ false → C) → C
@@ -175,85 +171,35 @@ start layout = record { counts = omega arith; small = tt; named = tt }
 
 -- ---- the first line
 
--- after so many lines of a file the line would be the first, and tell today's layout
-abbrev pub tells : Layout → ℕ → List ℕ → Bool
-tells Today count line = false
-tells Early count line = nat_eq count 0 && bytes_eq line layout_line
-
--- none of these, that come next, does
-abbrev pub TellsNot : Layout → ℕ → List (List ℕ) → Type 0
-TellsNot layout count [] = Unit {0}
-TellsNot layout count (line ∷ lines) = tells layout count (cut_line longest_record line) ≡ false
-
 not_first : (n : ℕ) (b : Bool) → 0 < n → nat_eq n 0 && b ≡ false
 not_first n b h = let isnt : nat_eq n 0 ≡ false = grind (arith, nat_tests) in ap (λ x. x && b) isnt
 
-pub tells_not : (layout : Layout) (count : ℕ) (lines : List (List ℕ)) → 0 < count → TellsNot layout count lines
-tells_not layout count [] h = tt
-tells_not Today count (line ∷ lines) h = refl
-tells_not Early count (line ∷ lines) h = not_first count (bytes_eq (cut_line longest_record line) layout_line) h
+-- a later line doesn't tell the layout
+pub tells_not : (layout : Layout) (count : ℕ) (line : List ℕ) → 0 < count → tells_layout layout count line ≡ false
+tells_not Today count line h = refl
+tells_not Early count line h = not_first count (bytes_eq line layout_line) h
 
--- ---- runs
+-- a line tells today's layout if what is seen of it does
+pub cut_layout : (line : List ℕ) → bytes_eq (cut_line longest_record line) layout_line ≡ bytes_eq line layout_line
+cut_layout line = by_test (bytes_eq line layout_line)
+    (λ is. ap (λ l. bytes_eq (cut_line longest_record l) layout_line) (bytes_from_test line layout_line is) ∙ sym is)
+    (λ isnt. by_test (bytes_eq (cut_line longest_record line) layout_line)
+    (λ is. let cut = bytes_from_test (cut_line longest_record line) layout_line is in absurd (true≢false (sym (ap (λ l. bytes_eq l layout_line) (whole cut)) ∙ isnt)))
+    (λ is. is ∙ sym isnt))
+  where
+    whole : take (longest_record + 1) line ≡ layout_line → line ≡ layout_line
+    whole cut =
+        let size : length (take (longest_record + 1) line) ≡ 8 = ap length cut in
+        let short : length line ≤ longest_record + 1 = (let full = length-take (longest_record + 1) line in omega (arith, size, full)) in
+        sym (take_all (longest_record + 1) line short) ∙ cut
 
-module _ (name : List ℕ) where
-  -- what a line is answered with in a head
-  in_stage : (layout : Layout) (stage : ReplayStage) (front : Front) (count : ℕ) (n line text : List ℕ) (new : ReplayStage) → IsHeadBy layout front count stage → tells layout count line ≡ false →
-      replay_answers_in n stage line text new → HeadAnswersBy layout n (Some front) count line text new
-  in_stage Today (Head head) front count n line text new here apart h =
-      subst (λ (r : Option Front). HeadAnswersBy Today n r count line text new) here.0 (subst (λ (k : ℕ). HeadAnswersBy Today n head.reader k line text new) here.1 h)
-  in_stage Early (OldHead head) front count n line text new here apart h =
-      let no : tells_today head line ≡ false = ap (λ (k : ℕ). nat_eq k 0 && bytes_eq line layout_line) here.1 ∙ apart in
-      subst (λ (r : Option Front). HeadAnswersBy Early n r count line text new) here.0 (subst (λ (k : ℕ). HeadAnswersBy Early n head.reader k line text new) here.1
-      (subst (λ (b : Bool). OldHeadAnswers b n head line text new) no h))
-  in_stage Today (OldHead head) front count n line text new here apart h = absurd here
-  in_stage Today (Running replay) front count n line text new here apart h = absurd here
-  in_stage Early (Head head) front count n line text new here apart h = absurd here
-  in_stage Early (Running replay) front count n line text new here apart h = absurd here
+pub layout_first : (line : List ℕ) (lines : List (List ℕ)) (t : Bool) → bytes_eq line layout_line ≡ t → layout_of (line ∷ lines) ≡ cond t Today Early
+layout_first line lines t e = ap (λ b. cond b Today Early) e
 
-  module _ (layout : Layout) where
-    -- a run that begins in the head ends in it, or past it
-    pub data HeadRun (front : Front) (count : ℕ) (lines : List (List ℕ)) (text : List ℕ) (state : ReplayScript) : Type 0 where
-      InHead : (next : Front) (later : ℕ) → IsCounted layout next later → is_begun next ≡ false → IsHeadBy layout next later state.stage → state.name ≡ name → text ≡ []
-          → ((others : List (List ℕ)) → reading_by layout (lines ++ others) (count + 1) front ≡ reading_by layout others (later + 1) next) → HeadRun front count lines text state
-      PastHead : (config : Config) (rest : List (List ℕ)) (s : ReplayScript) (replay : Standing) → AreNamed config.tenants → s.stage ≡ Running replay → s.name ≡ name → StartsFor layout name config replay
-          → Run replay_rules s (map (cut_line longest_record) rest) text state
-          → ((others : List (List ℕ)) → reading_by layout (lines ++ others) (count + 1) front ≡ Whole config (rest ++ others)) → HeadRun front count lines text state
+-- ---- the tenant
 
-    -- one line of the head, and what the run does from there
-    head_line : (line : List ℕ) (lines : List (List ℕ)) (front : Front) (count : ℕ) (text : List ℕ) (state : ReplayScript) (first later : List ℕ) (mid : ReplayScript) (next : Front) →
-        IsCounted layout front count → is_begun front ≡ false → front_by layout front line ≡ Some next → first ≡ [] → mid.name ≡ name → GoesOnBy layout name count next mid.stage →
-        Run replay_rules mid (map (cut_line longest_record) lines) later state → text ≡ first ++ later →
-        ((on : Front) (n : ℕ) (m : ReplayScript) → IsCounted layout on n → is_begun on ≡ false → m.name ≡ name → IsHeadBy layout on n m.stage → 0 < n → Run replay_rules m (map (cut_line longest_record) lines) text state → HeadRun on n lines text state) →
-        HeadRun front count (line ∷ lines) text state
-    head_line line lines front count text state first later mid AtStart c still e silent same goes run whole on_from = absurd goes
-    head_line line lines front count text state first later mid (Within config) c still e silent same goes run whole on_from =
-        let n = counted_next layout front count config c (grows_by layout front line (Within config) e) in
-        let text_is : later ≡ text = sym (whole ∙ ap (λ t. t ++ later) silent) in
-        let run_on = subst (λ t. Run replay_rules mid (map (cut_line longest_record) lines) t state) text_is run in
-        let some : 0 < counted count = (let one = counted-small layout front count c in omega arith) in
-        one_more (on_from (Within config) (counted count) mid n refl same goes some run_on)
-      where
-        number : counted count + 1 ≡ count + 1 + 1
-        number = ap (λ k. k + 1) (counted-small layout front count c)
-
-        read_here : (others : List (List ℕ)) → reading_by layout (line ∷ lines ++ others) (count + 1) front ≡ reading_by layout (lines ++ others) (counted count + 1) (Within config)
-        read_here others = read_once layout front (count + 1) line (lines ++ others) (Within config) still e ∙ ap (λ k. reading_by layout (lines ++ others) k (Within config)) (sym number)
-
-        one_more : HeadRun (Within config) (counted count) lines text state → HeadRun front count (line ∷ lines) text state
-        one_more (InHead next after n still is same silent reads) = InHead next after n still is same silent (λ others. read_here others ∙ reads others)
-        one_more (PastHead found rest s replay named is same fresh run reads) = PastHead found rest s replay named is same fresh run (λ others. read_here others ∙ reads others)
-    head_line line lines front count text state first later mid (Begun config) c still e silent same (replay, fresh, is) run whole on_from =
-        let text_is : later ≡ text = sym (whole ∙ ap (λ t. t ++ later) silent) in
-        PastHead config lines mid replay (named_begun layout front count config c (grows_by layout front line (Begun config) e)) is same fresh
-        (subst (λ t. Run replay_rules mid (map (cut_line longest_record) lines) t state) text_is run)
-        (λ others. read_once layout front (count + 1) line (lines ++ others) (Begun config) still e ∙ read_whole layout (lines ++ others) (count + 1 + 1) config)
-
-    pub heads : (lines : List (List ℕ)) (front : Front) (count : ℕ) (m : ReplayScript) (text : List ℕ) (state : ReplayScript) → IsCounted layout front count → is_begun front ≡ false → m.name ≡ name → IsHeadBy layout front count m.stage →
-        TellsNot layout count lines → Run replay_rules m (map (cut_line longest_record) lines) text state → HeadRun front count lines text state
-    heads [] front count m text state c still same here apart h =
-        InHead front count c still (subst (λ (s : ReplayScript). IsHeadBy layout front count s.stage) (sym h.1) here) (ap (λ (s : ReplayScript). s.name) h.1 ∙ same) h.0 (λ others. refl)
-    heads (line ∷ lines) front count m text state c still same here apart (first, mid, later, (kept, answered), run, whole) =
-        let step = in_stage layout m.stage front count name (cut_line longest_record line) first mid.stage here apart (subst (λ n. replay_answers_in n m.stage (cut_line longest_record line) first mid.stage) same answered) in
-        let found : front_by layout front line ≡ Some step.0 = sym (cut_in_head layout front line) ∙ step.1 in
-        head_line line lines front count text state first later mid step.0 c still found step.2 (kept ∙ same) step.3 run whole
-        (λ on n s k still same at some r. heads lines on n s text state k still same at (tells_not layout n lines some) r)
+-- a tenant's name is short
+pub short_in : (config : Config) (name : List ℕ) (slot : ℕ) → AreNamed config.tenants → slot_of_name config.tenants name ≡ Some slot → length name ≤ 16
+short_in config name slot named there =
+    let found = found_at config.tenants name slot there in
+    subst (λ n. length n ≤ 16) (bytes_from_test found.0.name name found.2) (short_name found.0.name (name_of config.tenants slot found.0 named found.1))

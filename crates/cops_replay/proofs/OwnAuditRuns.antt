@@ -36,7 +36,7 @@ use Rattle.cops_replay.proofs.AuditRunLemmas.{formed_for}
 use Rattle.cops_replay.proofs.HeadsBack.{written_head}
 use Rattle.cops_replay.proofs.OpenHeads.{lone_head}
 use Rattle.cops_replay.proofs.OwnAuditParts.{has_place, open_found, own_audit_text_is}
-use Rattle.cops_replay.proofs.ReplayRunLemmas.{kept}
+use Rattle.cops_replay.proofs.FileRuns.{kept}
 use Rattle.cops_replay.proofs.ShortLines.{lines_at}
 use Rattle.cops_replay.proofs.WrittenAudits.{says_same}
 use Rattle.cops_replay.proofs.WrittenForms.{AllFormed}

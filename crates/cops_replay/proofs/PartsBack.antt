@@ -27,7 +27,7 @@ use Rattle.cops_replay.specs.OpenAudits.{with_tenants}
 use Rattle.cops_replay.specs.OwnLines.{alone_lines}
 use Rattle.cops_replay.specs.OwnParts.{IsPartOf, layout_lines, lone_head_lines}
 use Rattle.cops_replay.specs.ReplayParts.{HasPart, seen_lines}
-use Rattle.cops_replay.specs.ReplayRules.{front_by}
+use Rattle.cops_replay.specs.FileHeads.{front_by}
 use Rattle.cops_replay.specs.ReplayText.{IsReplayOf, RefusesReplayOf, head_by, layout_of, longest_record}
 use Rattle.cops_replay.proofs.AuditHeads.{bad_end, bad_first, read_once, read_whole, reading_by}
 use Rattle.cops_replay.proofs.HeadsBack.{IsToken, cluster_lacks, lines_of-lack, lines_of-lines, lines_of-more, parsed_token, tenant_lacks, tenant_written, written_tenant}

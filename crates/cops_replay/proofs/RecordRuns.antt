@@ -17,14 +17,11 @@ use Rattle.cops_replay.specs.declared.layouts.Layout.TheVariants.{Today, Early}
 use Rattle.cops_replay.specs.declared.Record.{Record}
 use Rattle.cops_replay.specs.declared.Replayed.{Replayed}
 use Rattle.cops_replay.specs.declared.Replayed.TheVariants.{Same, FirstDifference}
-use Rattle.cops_replay.specs.declared.replay_machine.ReplayScript.{ReplayScript}
-use Rattle.cops_replay.specs.declared.replay_machine.ReplayStage.{ReplayStage}
-use Rattle.cops_replay.specs.declared.replay_machine.ReplayStage.TheVariants.{Running}
 use Rattle.cops_replay.specs.OldRecords.{is_old_record, old_record_in, versions_in}
 use Rattle.cops_replay.specs.OwnLines.{alone_lines}
 use Rattle.cops_replay.specs.RecordLines.{record_by}
 use Rattle.cops_replay.specs.Replayings.{Differs, IsReplayedLine, Passes, Standing, found_of, found_so_far}
-use Rattle.cops_replay.specs.ReplayRules.{ReplaysOwn, replay_answers_in, replay_rules}
+use Rattle.cops_replay.specs.ReplayRules.{ReplaysOwn, replay_lines}
 use Rattle.cops_replay.specs.ReplayText.{FindsBy, is_great_in, longest_record, replayed_text, told_number, told_of}
 use Rattle.cops_replay.specs.Replays.{IsAlone}
 use Rattle.cops_replay.proofs.AuditHeads.{by_test, take_all}
@@ -125,56 +122,42 @@ module _ (name : List ℕ) (layout : Layout) where
       or_true true b e = refl
       or_true false b e = e
 
-  pub record Ran (config : TenantConfig) (old : Standing) (lines : List (List ℕ)) (text : List ℕ) (state : ReplayScript) : Type 0 where
-    pub new : Standing
-    pub is : state.stage ≡ Running new
-    pub same : state.name ≡ name
+  -- what a run over the lines comes to
+  pub record Ran (config : TenantConfig) (old : Standing) (lines : List (List ℕ)) (text : List ℕ) (new : Standing) : Type 0 where
     pub layout_is : new.layout ≡ layout
     pub silent : text ≡ []
     pub small : list_any (is_great_in layout) (alone_lines name lines) ≡ false
     pub tells : Tells layout config old (alone_lines name lines) new
 
-  one_more : (config : TenantConfig) (line : List ℕ) (lines : List (List ℕ)) (old mid : Standing) (own : Bool) (text : List ℕ) (state : ReplayScript) → bytes_eq (first_word line) name ≡ own → old.layout ≡ layout → ReplaysOwn own old (cut_line longest_record line) mid →
-      (mid.layout ≡ layout → Ran config mid lines text state) → Ran config old (line ∷ lines) text state
-  one_more config line lines old mid true text state e at h later =
+  one_more : (config : TenantConfig) (line : List ℕ) (lines : List (List ℕ)) (old mid : Standing) (own : Bool) (text : List ℕ) (new : Standing) → bytes_eq (first_word line) name ≡ own → old.layout ≡ layout → ReplaysOwn own old (cut_line longest_record line) mid →
+      (mid.layout ≡ layout → Ran config mid lines text new) → Ran config old (line ∷ lines) text new
+  one_more config line lines old mid true text new e at h later =
       let rest = later (h.1.layout ∙ at) in
       let fits : is_great_in layout line ≡ false = sym (great_cut layout line) ∙ ap (λ (l : Layout). is_great_in l (cut_line longest_record line)) (sym at) ∙ h.0 in
       record {
-        new = rest.new;
-        is = rest.is;
-        same = rest.same;
         layout_is = rest.layout_is;
         silent = rest.silent;
         small = ap (list_any (is_great_in layout)) (own_first line lines e) ∙ ap (λ b. b || list_any (is_great_in layout) (alone_lines name lines)) fits ∙ rest.small;
-        tells = subst (λ ls. Tells layout config old ls rest.new) (sym (own_first line lines e)) (tells_line layout config line (alone_lines name lines) old mid rest.new h.1 rest.tells);
+        tells = subst (λ ls. Tells layout config old ls new) (sym (own_first line lines e)) (tells_line layout config line (alone_lines name lines) old mid new h.1 rest.tells);
       }
-  one_more config line lines old mid false text state e at h later =
+  one_more config line lines old mid false text new e at h later =
       let rest = later (ap (λ (s : Standing). s.layout) h ∙ at) in
       record {
-        new = rest.new;
-        is = rest.is;
-        same = rest.same;
         layout_is = rest.layout_is;
         silent = rest.silent;
         small = ap (list_any (is_great_in layout)) (others_first line lines e) ∙ rest.small;
-        tells = subst (λ ls. Tells layout config old ls rest.new) (sym (others_first line lines e)) (subst (λ s. Tells layout config s (alone_lines name lines) rest.new) h rest.tells);
+        tells = subst (λ ls. Tells layout config old ls new) (sym (others_first line lines e)) (subst (λ s. Tells layout config s (alone_lines name lines) new) h rest.tells);
       }
 
-  pub running : (config : TenantConfig) → length name ≤ 16 → (lines : List (List ℕ)) (old : Standing) (text : List ℕ) (s state : ReplayScript) → s.stage ≡ Running old → old.layout ≡ layout → s.name ≡ name →
-      Run replay_rules s (map (cut_line longest_record) lines) text state → Ran config old lines text state
-  running config short [] old text s state at is same h = record {
-    new = old;
-    is = ap (λ (x : ReplayScript). x.stage) h.1 ∙ at;
-    same = ap (λ (x : ReplayScript). x.name) h.1 ∙ same;
-    layout_is = is;
+  pub running : (config : TenantConfig) → length name ≤ 16 → (lines : List (List ℕ)) (old : Standing) (text : List ℕ) (new : Standing) → old.layout ≡ layout → Run (replay_lines name) old (map (cut_line longest_record) lines) text new → Ran config old lines text new
+  running config short [] old text new is h = record {
+    layout_is = ap (λ (s : Standing). s.layout) h.1 ∙ is;
     silent = h.0;
     small = refl;
-    tells = tells_none layout config old;
+    tells = subst (λ s. Tells layout config old [] s) (sym h.1) (tells_none layout config old);
   }
-  running config short (line ∷ lines) old text s state at is same (first, mid, later, (kept, answered), run, whole) =
-      let here = subst (λ (st : ReplayStage). replay_answers_in s.name st (cut_line longest_record line) first mid.stage) at answered in
-      let own_is = ap (bytes_eq (first_word (cut_line longest_record line))) same ∙ same_own name line short in
-      let own = subst (λ b. ReplaysOwn b old (cut_line longest_record line) here.1) own_is here.2 in
-      let text_is : later ≡ text = sym (whole ∙ ap (λ t. t ++ later) here.0) in
-      let run_on = subst (λ t. Run replay_rules mid (map (cut_line longest_record) lines) t state) text_is run in
-      one_more config line lines old here.1 (bytes_eq (first_word line) name) text state refl is own (λ kind. running config short lines here.1 text mid state here.3 kind (kept ∙ same) run_on)
+  running config short (line ∷ lines) old text new is (first, mid, later, (quiet, own), run, whole) =
+      let own_is = subst (λ b. ReplaysOwn b old (cut_line longest_record line) mid) (same_own name line short) own in
+      let text_is : later ≡ text = sym (whole ∙ ap (λ t. t ++ later) quiet) in
+      let run_on = subst (λ t. Run (replay_lines name) mid (map (cut_line longest_record) lines) t new) text_is run in
+      one_more config line lines old mid (bytes_eq (first_word line) name) text new refl is own_is (λ kind. running config short lines mid text new kind run_on)

@@ -7,12 +7,13 @@ ghost use Rattle.cops_types.specs.Sink.{sink_failures, sink_writer};
 ghost use Rattle.cops_types.specs.Source.{source_failures, source_reader, source_reads};
 ghost use Rattle.cops_replay.specs.OwnParts.{RefusesPartOf, WritesPart, WritesPartFront};
 
-use crate::extraction_machine::{PartScript, new_part_script};
+use crate::audit_machine::{AuditMachine, new_audit};
+use crate::extraction_machine::PartOf;
 use crate::refusals::PartRefusal;
 use crate::replay_runs::TURNS;
 use crate::replayings::LONGEST_RECORD;
 use cops_script::{RunFault, run_lines};
-use cops_types::{Sink, Source};
+use cops_types::{Bytes, Sink, Source};
 use std::alloc::Global;
 use std::io::{Read, Write};
 
@@ -48,6 +49,7 @@ pub fn extract_text<R: Read, O: Write>(
         ⊎ HasRisenBy (source_reads source.old) (source_reads source.new) 4294967296 }
     ensures write_fault { IsErrOf result RunFault.WriteFault → HasRisen (sink_failures sink.old) (sink_failures sink.new) }
 {
-    let mut script: PartScript = new_part_script(alloc, tenant)?;
-    run_lines(&mut script, alloc, TURNS, LONGEST_RECORD, source, sink)
+    let name = Bytes::new(alloc, tenant)?;
+    let mut part: AuditMachine<PartOf, ()> = new_audit(PartOf { name });
+    run_lines(&mut part, alloc, TURNS, LONGEST_RECORD, source, sink)
 }

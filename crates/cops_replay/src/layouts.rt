@@ -11,7 +11,7 @@ pub(crate) const LAST_EARLY_CLOCK: u64 = (1 << 48) - 2;
 
 /// The layout of a file.
 #[derive(Clone, Copy, Debug, PartialEq, Eq)]
-pub(crate) enum Layout {
+pub enum Layout {
     /// Layout 2.
     Today,
     /// Layout 1, of which only versions are read that layout 2 has too, with a next one.

@@ -7,11 +7,12 @@ ghost use Rattle.cops_types.specs.Sink.{sink_failures, sink_writer};
 ghost use Rattle.cops_types.specs.Source.{source_failures, source_reader, source_reads};
 ghost use Rattle.cops_replay.specs.ReplayText.{IsReplayOf, RefusesReplayOf, ReplaysFront};
 
+use crate::audit_machine::{AuditMachine, new_audit};
 use crate::refusals::ReplayRefusal;
-use crate::replay_machine::{ReplayScript, new_replay_script};
-use crate::replayings::LONGEST_RECORD;
+use crate::replay_machine::ReplaysOf;
+use crate::replayings::{LONGEST_RECORD, Replay};
 use cops_script::{RunFault, run_lines};
-use cops_types::{Sink, Source};
+use cops_types::{Bytes, Sink, Source};
 use std::alloc::Global;
 use std::io::{Read, Write};
 use std::mem;
@@ -54,7 +55,8 @@ pub fn replay_text<R: Read, O: Write>(
         ⊎ HasRisenBy (source_reads source.old) (source_reads source.new) 4294967296 }
     ensures write_fault { IsErrOf result RunFault.WriteFault → HasRisen (sink_failures sink.old) (sink_failures sink.new) }
 {
-    let mut replay: ReplayScript = new_replay_script(alloc, tenant)?;
+    let name = Bytes::new(alloc, tenant)?;
+    let mut replay: AuditMachine<ReplaysOf, Replay> = new_audit(ReplaysOf { name });
     let ended = run_lines(&mut replay, alloc, TURNS, LONGEST_RECORD, source, sink);
     // The process ends soon, and frees its memory at once.
     mem::forget(replay);
