@@ -37,26 +37,21 @@ says_for : (known : Option (List ℕ)) (config : Config) (nodes : List Shared) �
 says_for None config nodes head says = tt
 says_for (Some bytes) config nodes head says = says (lines_of bytes) head.0 head.1
 
--- a head is read by a reader of its own, which has the same bytes before it
-pub served_from : (known old : Option (List ℕ)) (config : Config) (nodes : List Shared) → known ≡ old
+-- the head before the reader is the configuration's
+pub served_from : (known : Option (List ℕ)) (config : Config) (nodes : List Shared)
     → IfSome known (λ bytes. (lines : List (List ℕ)) × (head_of (lines_of bytes) ≡ Whole config lines)) → AreLeft (new_nodes config).nodes nodes → AllReplaySame config (his_nodes config nodes)
     → ((lines rest : List (List ℕ)) → head_of lines ≡ Whole config rest → HaveLines config (his_nodes config nodes) → SaysSame config (his_nodes config nodes) (audit_of config nodes))
-    → AreServed old config nodes
-served_from known old config nodes same head left replays says =
-    let its = subst (λ bytes. IfSome bytes (λ it. (lines : List (List ℕ)) × (head_of (lines_of it) ≡ Whole config lines))) same head in
-    record { head = its; left = left; replays = replays; says_same = says_for old config nodes its says }
+    → AreServed known config nodes
+served_from known config nodes head left replays says = record { head = head; left = left; replays = replays; says_same = says_for known config nodes head says }
 
 keeps : (known : Option (List ℕ)) → Keeps known known
 keeps None = tt
 keeps (Some bytes) = refl
 
 -- the head is known
-pub head_is : (known old : Option (List ℕ)) (config : Config) → known ≡ old → IfSome known (λ bytes. (lines : List (List ℕ)) × (head_of (lines_of bytes) ≡ Whole config lines)) → IfSome old HasHead
-head_is known old config same head = subst (λ (bytes : Option (List ℕ)). IfSome bytes HasHead) same (its known head)
-  where
-    its : (known : Option (List ℕ)) → IfSome known (λ bytes. (lines : List (List ℕ)) × (head_of (lines_of bytes) ≡ Whole config lines)) → IfSome known HasHead
-    its None head = tt
-    its (Some bytes) head = (config, head.0, head.1)
+pub head_is : (known : Option (List ℕ)) (config : Config) → IfSome known (λ bytes. (lines : List (List ℕ)) × (head_of (lines_of bytes) ≡ Whole config lines)) → IfSome known HasHead
+head_is None config head = tt
+head_is (Some bytes) config head = (config, head.0, head.1)
 
 -- a service that ends before anything is written
 pub ends_early : (old new : Streams) (ended : CliFault) → new.contents ≡ old.contents → IfSome old.remaining HasHead → (ended ≡ OutOfMemory) ⊎ ((ended ≡ ReadFault) ⊎ (ended ≡ Torn)) → MayFail serving old new ended
@@ -65,7 +60,7 @@ ends_early old new ended same head stopped =
     elim stopped [
       | inl lack ↦ subst (MayFail serving old new) (sym lack) (record { why = inl tt; begun = inl kept })
       | inr others ↦ elim others [
-        | inl failed ↦ subst (MayFail serving old new) (sym failed) (record { why = inr (inl kept); begun = inl kept })
+        | inl failed ↦ subst (MayFail serving old new) (sym failed) (record { why = inr (inl (head, kept)); begun = inl kept })
         | inr torn ↦ subst (MayFail serving old new) (sym torn) (record { why = inr (head, kept); begun = inl kept })
       ]
     ]

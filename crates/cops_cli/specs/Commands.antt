@@ -190,10 +190,10 @@ WritesServedFront old new = Keeps old.contents new.contents
 abbrev pub HasHead : List ℕ → Type 0
 HasHead bytes = (config : Config) × (lines : List (List ℕ)) × (head_of (lines_of bytes) ≡ Whole config lines)
 
--- a bad head; the listener failed, before the service or at its end, or a thread could not be started; a turn of a node was never ended
+-- a bad head; behind a head, the listener failed, before the service or at its end, or a thread could not be started; a turn of a node was never ended
 abbrev pub refuses_service : Streams → Streams → CliFault → Type 0
 refuses_service old new (BadHead line) = RefusesAll (HasBadHead line) old new
-refuses_service old new ReadFault = Keeps old.contents new.contents ⊎ WritesServed old new
+refuses_service old new ReadFault = RefusesAll HasHead old new ⊎ WritesServed old new
 refuses_service old new Torn = RefusesAll HasHead old new
 refuses_service old new other = ⊥
 

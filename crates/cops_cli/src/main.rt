@@ -11,7 +11,6 @@ ghost use Rattle.cops_cli.specs.Statuses.{status_of};
 mod command_line;
 mod control;
 mod faults;
-mod heads;
 mod help_texts;
 mod moments;
 mod program;
@@ -106,7 +105,8 @@ fn main(rt: HostRuntime) -> ExitCode {
         Err(fault) => return end(&rt, Err(fault)),
     };
     let progress = progress_of(&rt, words.as_slice());
-    let mut source = Source::new(WatchedReader::new(rt.reader(), progress));
+    let reads_ahead = reads_a_file(words.as_slice());
+    let mut source = Source::new(WatchedReader::new(rt.reader(), progress, reads_ahead));
     let mut sink = Sink::new(io::writer(&rt));
     run(&rt, words.as_slice(), &mut source, &mut sink)
 }

@@ -1,5 +1,5 @@
 //! Progress of long runs, on standard error.
-ghost use Rattle.std.specs.Prelude.{◌≡◌};
+ghost use Rattle.std.specs.Prelude.{◌≡◌, ◌≤◌, IfOk, IsFalse};
 ghost use Rattle.std.specs.Io.{ReadsAtMost};
 ghost use Rattle.std.specs.Io.KnownBytes.{ReadConsumes};
 
@@ -54,18 +54,25 @@ impl<T: Clock + Eprint> Progress<'_, T> {
 }
 
 /// A reader that gives another one's bytes, and reports the number of lines among them if there is a
-/// `Progress`.
+/// `Progress`. Unless it reads ahead, it takes at most one byte a turn: what follows a head then stays
+/// unread.
 #[derive(Drop)]
 pub(crate) struct WatchedReader<'a, T, I> {
     reader: I,
     progress: Option<Progress<'a, T>>,
+    reads_ahead: bool,
 }
 
 impl<'a, T, I> WatchedReader<'a, T, I> {
-    pub(crate) fn new(reader: I, progress: Option<Progress<'a, T>>) -> Self
-        ensures { result.reader ≡ reader }
+    pub(crate) fn new(reader: I, progress: Option<Progress<'a, T>>, reads_ahead: bool) -> Self
+        ensures reader { result.reader ≡ reader }
+        ensures ahead { result.reads_ahead ≡ reads_ahead }
     {
-        WatchedReader { reader, progress }
+        WatchedReader {
+            reader,
+            progress,
+            reads_ahead,
+        }
     }
 }
 
@@ -77,8 +84,14 @@ impl<T: Clock + Eprint, I: Read> Read for WatchedReader<'_, T, I> {
         ensures bound { ReadsAtMost result buf.new }
         ensures bytes { ReadConsumes (I.remaining self.old.reader) (I.remaining self.new.reader)
             result buf.new }
+        ensures one { IsFalse self.old.reads_ahead → IfOk result (λ count. count ≤ 1) }
     {
-        let read = self.reader.read(buf);
+        let most = if self.reads_ahead {
+            buf.len()
+        } else {
+            buf.len().min(1)
+        };
+        let read = self.reader.read(&mut buf[..most]);
         if let (Some(progress), Ok(count)) = (&mut self.progress, &read) {
             progress.note(&buf[..*count]);
         }

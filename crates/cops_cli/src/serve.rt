@@ -16,7 +16,6 @@ ghost use Rattle.cops_cli.specs.Commands.{MayEnd, serving, streams};
 use crate::command_line::Service;
 use crate::control::{Hosted, follow_input};
 use crate::faults::CliFault;
-use crate::heads::ByteReader;
 use crate::moments::SteadyMoments;
 use cops_replay::write_audit;
 use cops_script::{BadConfig, RunFault, read_config};
@@ -231,15 +230,15 @@ where
         (streams I.remaining O.contents source.old sink.old)
         (streams I.remaining O.contents source.new sink.new) result }
 {
-    let mut head = Source::new(ByteReader::new(source));
-    let config = match read_config(alloc, &mut head) {
+    let config = match read_config(alloc, source) {
         Ok(config) => config,
         Err(fault) => {
             tell_of_head(rt, &fault);
             return Err(CliFault::from(fault));
         }
     };
-    let lines = head.into_inner().lines();
+    // A head is the line of the cluster, one for each tenant, and the line that ends it.
+    let lines = (config.tenants.len() as u64).saturating_add(2);
     let served = match serve_clients(rt, alloc, service, &config, lines) {
         Ok(served) => served,
         Err(fault) => return Err(fault),

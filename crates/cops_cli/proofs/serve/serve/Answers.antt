@@ -1,7 +1,6 @@
-use Rattle.std.proofs.Common.{IsTrue, ◌≡◌, ◌∙◌, ap, refl}
+use Rattle.std.proofs.Common.{IsTrue, refl}
 use Rattle.std.specs.List.{list_all}
 use Rattle.cops_types.specs.HeadLines.{are_sizes, is_tenant}
-use Rattle.cops_types.specs.Source.{source_reader}
 use Rattle.cops_types.proofs.WordLemmas.{both}
 use Rattle.cops_script.proofs.TenantConfigs.{clocks_of_good}
 use Rattle.cops_cli.proofs.ServingFacts.{concludes, ends_early, head_is, left_nodes, served_from}
@@ -12,9 +11,7 @@ serve_clients-requires-clause-clocks g c = λ κs outlives. clocks_of_good c.in-
 
 pub returns-in-Err-serve_clients : goal.returns-in-Err-serve_clients
 returns-in-Err-serve_clients g c =
-    let same : g.I.Read.remaining (source_reader (source_reader c.new-head.result).source.now) ≡ g.I.Read.remaining (source_reader c.args.source.now) =
-    ap (λ r. g.I.Read.remaining (source_reader r.source.now)) c.new-head.ensures.reader ∙ ap (λ s. g.I.Read.remaining (source_reader s)) c.new.ensures in
-    ends_early _ _ c.in-Err-serve_clients.fault refl (head_is _ _ c.in-Ok.config same c.in-Ok.ensures.config) c.in-Err-serve_clients.ensures.stopped
+    ends_early _ _ c.in-Err-serve_clients.fault refl (head_is _ c.in-Ok.config c.in-Ok.ensures.config) c.in-Err-serve_clients.ensures.stopped
 
 pub conclude-requires-clause-nodes : goal.conclude-requires-clause-nodes
 conclude-requires-clause-nodes g c =
@@ -24,9 +21,7 @@ conclude-requires-clause-nodes g c =
 
 pub returns : goal.returns
 returns g c =
-    let same : g.I.Read.remaining (source_reader (source_reader c.new-head.result).source.now) ≡ g.I.Read.remaining (source_reader c.args.source.now) =
-    ap (λ r. g.I.Read.remaining (source_reader r.source.now)) c.new-head.ensures.reader ∙ ap (λ s. g.I.Read.remaining (source_reader s)) c.new.ensures in
     concludes _ _ c.conclude.result c.in-Ok.config c.in-Ok-serve_clients.served.nodes.items
-    (served_from _ _ c.in-Ok.config c.in-Ok-serve_clients.served.nodes.items same c.in-Ok.ensures.config c.in-Ok-serve_clients.ensures.left
+    (served_from _ c.in-Ok.config c.in-Ok-serve_clients.served.nodes.items c.in-Ok.ensures.config c.in-Ok-serve_clients.ensures.left
     c.conclude.ensures.replays c.conclude.ensures.says_same)
     c.conclude.ensures.ok c.conclude.ensures.front c.conclude.ensures.stopped c.conclude.ensures.lost c.conclude.ensures.write_fault
