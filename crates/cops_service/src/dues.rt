@@ -26,6 +26,8 @@ pub(crate) enum Collected {
 struct Due {
     // Whether `kept` lists the place.
     is_kept: bool,
+    // The life of its versions. What an earlier life left is forgotten.
+    life: u64,
     // Whether to collect the place at once.
     is_asked: bool,
     // When the oldest version that no collection has covered is due.
@@ -57,6 +59,7 @@ impl Dues {
     ) -> Result<Self, AllocError> {
         let none = Due {
             is_kept: false,
+            life: 0,
             is_asked: false,
             at: NEVER,
             latest: 0,
@@ -74,6 +77,7 @@ impl Dues {
     pub(crate) fn note(&mut self, visit: &Visit, now: u64) {
         let at = due_after(now, self.trans_time);
         let number = visit.place.number(self.sizes) as usize;
+        self.forget_earlier(&visit.place);
         let Some(due) = self.dues.get_mut(number) else {
             return;
         };
@@ -89,6 +93,29 @@ impl Dues {
         if is_new && self.kept.len() < self.kept.capacity() {
             due.is_kept = true;
             self.kept.push_reserved(visit.place);
+        }
+    }
+
+    // Forgets the place if something is due there of another life.
+    fn forget_earlier(&mut self, place: &TenantNode) {
+        let sizes = self.sizes;
+        let number = place.number(sizes);
+        let Some(due) = self.dues.get_mut(number as usize) else {
+            return;
+        };
+        if due.life == place.life {
+            return;
+        }
+        let is_kept = due.is_kept;
+        *due = Due {
+            is_kept: false,
+            life: place.life,
+            is_asked: false,
+            at: NEVER,
+            latest: 0,
+        };
+        if is_kept {
+            self.kept.retain(|other| other.number(sizes) != number);
         }
     }
 

@@ -14,6 +14,8 @@ const LONGEST: u64 = 1000;
 #[derive(Clone, Copy)]
 struct Pause {
     is_kept: bool,
+    // The life of its stream. That of an earlier life is forgotten.
+    life: u64,
     // Its length.
     length: u64,
     // When it ends.
@@ -35,6 +37,7 @@ impl Waiting {
     pub(crate) fn new(alloc: Global, notes: &Notes, streams: usize) -> Result<Self, AllocError> {
         let none = Pause {
             is_kept: false,
+            life: 0,
             length: 0,
             over: 0,
         };
@@ -48,6 +51,7 @@ impl Waiting {
 
     /// Keeps a stream that could not be carried, for a pause twice as long as its last.
     pub(crate) fn keep(&mut self, stream: &Stream, now: u64) {
+        self.forget_earlier(stream);
         let Some(pause) = self.pauses.get_mut(stream.number(self.sizes) as usize) else {
             return;
         };
@@ -60,7 +64,19 @@ impl Waiting {
         }
     }
 
-    /// Forgets a stream that went on or is empty.
+    // Forgets the stream if it waits in another life.
+    fn forget_earlier(&mut self, stream: &Stream) {
+        let number = stream.number(self.sizes) as usize;
+        let pause = self.pauses.get(number);
+        if pause.is_some_and(|pause| pause.life != stream.life()) {
+            self.forget(stream);
+        }
+        if let Some(pause) = self.pauses.get_mut(number) {
+            pause.life = stream.life();
+        }
+    }
+
+    /// Forgets a stream that went on, is empty, or whose life has ended.
     pub(crate) fn forget(&mut self, stream: &Stream) {
         let number = stream.number(self.sizes);
         let Some(pause) = self.pauses.get_mut(number as usize) else {
@@ -96,9 +112,9 @@ impl Waiting {
     }
 
     /// Lists this tenant's streams as work items.
-    pub(crate) fn note_tenant<R: Wait>(&self, rt: &R, notes: &Notes, slot: u64) {
+    pub(crate) fn note_tenant<R: Wait>(&self, rt: &R, notes: &Notes, slot: u64, life: u64) {
         for stream in self.kept.as_slice() {
-            if stream.from.slot == slot {
+            if stream.from.slot == slot && stream.from.life == life {
                 notes.sent.add(rt, *stream);
             }
         }
