@@ -351,6 +351,9 @@ def is_unread(line, texts):
     at = re.match(r"(?:\./)?(\S+?):\d+:\d+: error: (?:(`[^`]*`): )?(.*)", line)
     if not at or at[1] not in texts and not at[1].startswith(("src/", "specs/")):
         return False
+    # (what depends on a refused declaration is read, and named once more)
+    if re.search(r"declarations? that depends? on .*, which was rejected, w(as|ere) not checked", at[3]):
+        return False
     return not at[2] or bool(re.search(r"is not in scope|has no field|is no name|operand is missing|expected the end|cannot continue", re.sub(r"`[^`]*`", "", at[3])))
 
 
