@@ -95,7 +95,7 @@ def carried(script):
 
 
 def full(script):
-    """The neighbour uses all of his quotas up, and goes on."""
+    """The neighbour uses all of its quotas up, and goes on."""
     lines = opened(script)
     for number in range(300):
         lines += [f"{NEIGHBOUR} put b 1 k{number} {'v' * 60}", f"{NEIGHBOUR} done b {number}"]
@@ -199,7 +199,7 @@ def any_lines(source):
 
 
 def drawn(script):
-    """200 scripts in which what he does is drawn: up to ten of these before each of the tenant's lines."""
+    """200 scripts in which what the neighbour does is drawn: up to ten of these before each of the tenant's lines."""
     script = next(rich(script))
     for seed in range(200):
         source = random.Random(seed)

@@ -169,21 +169,21 @@ def served(program):
         ("acme is the only tenant", Served(program, ["acme"], 0)),
         ("beta rests", Served(program, ["acme", "beta"], 0)),
         (f"beta floods the nodes over {FLOODS} connections", Served(program, ["acme", "beta"], FLOODS)),
-        ("he stands first in the head, and floods them", Served(program, ["beta", "acme"], FLOODS)),
+        ("beta stands first in the head, and floods them", Served(program, ["beta", "acme"], FLOODS)),
     )
     first = runs[0][1]
-    section.say(f"acme asks {len(first.replies):,} times over one connection, and is told:")
+    section.say(f"acme asks {len(first.replies):,} times over one connection. The replies:")
     section.say(f"{kinds(first.replies)}.")
     section.say()
     widths = (50, 12, 22, 14)
-    section.heads(widths, ["", "bytes", "SHA-256", "his audit"])
+    section.heads(widths, ["", "bytes", "SHA-256", "its audit"])
     for title, run in runs:
         told = b"".join(run.replies)
         section.columns(widths, [title, f"{len(told):,}", f"{hashlib.sha256(told).hexdigest()[:16]}..", f"replays {run.replay}"])
     section.say()
     busy = [run for _, run in runs[2:]]
     section.claim(
-        "While acme asked, beta was answered more often than he.", all(run.others > len(run.replies) for run in busy)
+        "While acme asked, beta got more replies than acme.", all(run.others > len(run.replies) for run in busy)
     )
     section.claim("Not a byte of acme's replies differs.", all(run.replies == first.replies for _, run in runs))
     section.claims.append(("Each run ends with status 0.", all(run.status == 0 for _, run in runs)))
