@@ -52,7 +52,7 @@ pub fn spared_answers_are_the_output()
 {}
 
 /// Up to its first out-of-memory reply a tenant of a script has the replies of the definition, whatever
-/// others are told. It follows from the main theorem, as every run of the script has it.
+/// replies others get. It follows from the main theorem, as every run of the script has it.
 pub fn replies_begin_as_defined()
     ensures { (config : Config) (lines : List (List ℕ)) (told : List Answer) (number : ℕ) → AreAnswered (config_told config lines told) (lives_told config lines told) told →
         number < length (config_told config lines told).tenants →
