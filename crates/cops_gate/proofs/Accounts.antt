@@ -12,7 +12,7 @@ use Rattle.cops_gate.specs.declared.board.View.{View}
 use Rattle.cops_gate.specs.declared.history.Turn.{Turn}
 use Rattle.cops_gate.specs.Accounts.{IsComplete, account_if_counted, no_account}
 use Rattle.cops_gate.specs.History.{StartsWith, turns_of}
-use Rattle.cops_gate.specs.Rule.{AreCounted, AreCovered, CountsAll, IsCovered, Met, all_counted}
+use Rattle.cops_gate.specs.Rule.{AreCounted, AreCovered, AreDistinctNumbers, AreJoinedOnce, CountsAll, IsCovered, Met, all_counted}
 use Rattle.cops_gate.specs.Plays.{ended_view, fork_view, forked_view, joined_view}
 use Rattle.cops_gate.specs.Seats.{AreMadeBy}
 use Rattle.cops_gate.proofs.Ending.{all_split, all_weaker}
@@ -45,6 +45,10 @@ met_left j (x ∷ xs) ys (inr there) = inr (met_left j xs ys there)
 pub met_right : (j : ℕ) (xs ys : List ℕ) → Met j ys → Met j (xs ++ ys)
 met_right j [] ys met = met
 met_right j (x ∷ xs) ys met = inr (met_right j xs ys met)
+
+distinct_both : (xs ys : List ℕ) → AreDistinctNumbers xs → AreDistinctNumbers ys → ((n : ℕ) → Met n xs → Met n ys → ⊥) → AreDistinctNumbers (xs ++ ys)
+distinct_both [] ys one two apart = two
+distinct_both (x ∷ xs) ys one two apart = ((λ met. ⊎_elim one.0 (apart x (inl refl)) (met_parts x xs ys met)), distinct_both xs ys one.1 two (λ n p q. apart n (inr p) q))
 
 put_at : {A : Type 0} (l : List A) (i : ℕ) (a b : A) → get_elem? l i ≡ some a → get_elem? (set l i b) i ≡ some b
 put_at [] i a b e = absurd (some-ne-none a (sym e))
@@ -108,6 +112,41 @@ module _ {M C R : Type 0} where
         let mine = numbers (ap (λ (x : View M C R). x.numbered) same ∙ known) in
         (id, w, put_at vs id v w at, mine.0, subst (λ (x : ℕ × Account). Met n (x.0 ∷ x.1.joined)) (λ k. (sym mine.1 k, sym account k)) (subst (λ (x : View M C R). Met n (x.number ∷ x.account.joined)) (sym same) met)))
         (λ other. (i, u, set_else vs id i w other ∙ ui, known, met))
+
+  -- ---- which seats ended into it
+
+  -- a seat into which the same ones ended
+  module _ (vs : List (View M C R)) (id : ℕ) (v w : View M C R) (at : get_elem? vs id ≡ some v) (joined : w.account.joined ≡ v.account.joined) where
+    joined_was : (k : ℕ) (c : View M C R) → get_elem? (set vs id w) k ≡ some c → (d : View M C R) × (get_elem? vs k ≡ some d) × (c.account.joined ≡ d.account.joined)
+    joined_was k c e = ⊎_elim
+        (λ (h : (k ≡ id) × (w ≡ c)). (v, ap (get_elem? vs) h.0 ∙ at, sym (ap (λ (u : View M C R). u.account.joined) h.1) ∙ joined))
+        (λ (h : (k ≢ id) × (get_elem? vs k ≡ some c)). (c, h.1, refl)) (at_set vs id k w c e)
+
+    pub once_again : AreJoinedOnce vs → AreJoinedOnce (set vs id w)
+    once_again k = record {
+      here = λ i a ai. let p = joined_was i a ai in subst AreDistinctNumbers (sym p.2) (k.here i p.0 p.1);
+      elsewhere = λ i j n a b ai bj ma mb. let p = joined_was i a ai in let q = joined_was j b bj in k.elsewhere i j n p.0 q.0 p.1 q.1 (subst (Met n) p.2 ma) (subst (Met n) q.2 mb);
+    }
+
+  -- a view comes into which no seat has ended
+  pub once_more : (vs : List (View M C R)) (w : View M C R) → w.account.joined ≡ [] → AreJoinedOnce vs → AreJoinedOnce (vs ++ w ∷ [])
+  once_more vs w none k =
+      let empty : (c : View M C R) → w ≡ c → c.account.joined ≡ [] = λ c same. sym (ap (λ (u : View M C R). u.account.joined) same) ∙ none in
+      let never : (n : ℕ) (c : View M C R) → w ≡ c → Met n c.account.joined → ⊥ = λ n c same met. subst (Met n) (empty c same) met in
+      record {
+        here = λ i a ai. ⊎_elim (λ p. k.here i a p) (λ p. subst AreDistinctNumbers (sym (empty a p)) tt) (at_snoc vs w a i ai);
+        elsewhere = λ i j n a b ai bj ma mb.
+            ⊎_elim (λ p. ⊎_elim (λ q. k.elsewhere i j n a b p q ma mb) (λ q. absurd (never n b q mb)) (at_snoc vs w b j bj)) (λ p. absurd (never n a p ma)) (at_snoc vs w a i ai);
+      }
+
+  -- the number of a seat, and of those that ended into it
+  pub all_distinct : (vs : List (View M C R)) (id : ℕ) (v : View M C R) → AreCounted vs → AreJoinedOnce vs → get_elem? vs id ≡ some v → v.is_seat ≡ true → v.number ≡ id → AreDistinctNumbers (v.number ∷ v.account.joined)
+  all_distinct vs id v k once at seat number = (
+    (λ met.
+        let g = k.gone id v v.number at met in
+        true_false (sym seat ∙ (ap (λ (u : View M C R). u.is_seat) (some-injective v g.0 (sym at ∙ (ap (get_elem? vs) (sym number) ∙ g.1))) ∙ g.2))),
+    once.here id v at,
+  )
 
   -- ---- a note of what a seat has seen
 
@@ -212,6 +251,9 @@ module _ {M C R : Type 0} where
           (λ new. absurd (subst (Met j) (ap (λ (u : View M C R). u.account.joined) (sym new) ∙ fork_joined_none v.account.is_first) met))) (seen_in i a ai);
     }
 
+    pub once_fork : AreJoinedOnce vs → AreJoinedOnce both
+    once_fork once = once_more (set vs id left) right (fork_joined_none v.account.is_first) (once_again vs id v left at refl once)
+
     pub covered_fork : (n : ℕ) → IsCovered vs n → IsCovered both n
     covered_fork n (i, u, ui, known, met) = dite (ℕ_discrete i id)
         (λ here.
@@ -307,6 +349,39 @@ module _ {M C R : Type 0} where
               (λ earlier. ⊎_elim (λ of_w. let g = k.gone other w j there of_w in still j g.0 g.1 g.2) (λ of_v. let g = k.gone id v j at of_v in still j g.0 g.1 g.2) (met_parts j w.account.joined v.account.joined earlier))
               (subst (λ (u : View M C R). Met j u.account.joined) (sym h.1) met))
               (λ (h : (i ≢ id) × (i ≢ other) × (get_elem? vs i ≡ some a)). let g = k.gone i a j h.2 met in still j g.0 g.1 g.2)) (met_in i a ai);
+        }
+
+    pub once_end : AreCounted vs → w.is_seat ≡ true → AreJoinedOnce vs → AreJoinedOnce after
+    once_end k was_seat once =
+        let never : (i : ℕ) (a : View M C R) → get_elem? vs i ≡ some a → Met other a.account.joined → ⊥
+        = λ i a ai met. let g = k.gone i a other ai met in true_false (sym was_seat ∙ (ap (λ (u : View M C R). u.is_seat) (some-injective w g.0 (sym there ∙ g.1)) ∙ g.2)) in
+        let of_both : (n : ℕ) → Met n w.account.joined → Met n v.account.joined → ⊥ = λ n of_w of_v. apart (once.elsewhere other id n w v there at of_w of_v) in
+        let into_once : AreDistinctNumbers into.account.joined
+        = (
+          (λ met. ⊎_elim (never other w there) (never id v at) (met_parts other w.account.joined v.account.joined (subst (λ n. Met n (w.account.joined ++ v.account.joined)) number met))),
+          distinct_both w.account.joined v.account.joined (once.here other w there) (once.here id v at) of_both,
+        ) in
+        let beside : (j n : ℕ) (b : View M C R) → (j ≢ id) × (j ≢ other) × (get_elem? vs j ≡ some b) → Met n into.account.joined → Met n b.account.joined → ⊥
+        = λ j n b h mi mb. ⊎_elim
+        (λ this. never j b h.2 (subst (λ m. Met m b.account.joined) (this ∙ number) mb))
+        (λ earlier. ⊎_elim
+        (λ of_w. h.1 (sym (once.elsewhere other j n w b there h.2 of_w mb)))
+        (λ of_v. h.0 (sym (once.elsewhere id j n v b at h.2 of_v mb)))
+        (met_parts n w.account.joined v.account.joined earlier)) mi in
+        let empty : (n : ℕ) (c : View M C R) → ended_view ≡ c → Met n c.account.joined → ⊥ = λ n c ended met. subst (λ (u : View M C R). Met n u.account.joined) (sym ended) met in
+        record {
+          here = λ i a ai. ⊎_elim (λ ended. subst (λ (u : View M C R). AreDistinctNumbers u.account.joined) ended tt)
+              (⊎_elim (λ (h : (i ≡ id) × (into ≡ a)). subst (λ (u : View M C R). AreDistinctNumbers u.account.joined) h.1 into_once)
+              (λ (h : (i ≢ id) × (i ≢ other) × (get_elem? vs i ≡ some a)). once.here i a h.2)) (met_in i a ai);
+          elsewhere = λ i j n a b ai bj ma mb. ⊎_elim (λ ended. absurd (empty n a ended ma))
+              (λ p. ⊎_elim (λ ended. absurd (empty n b ended mb))
+              (λ q. ⊎_elim
+              (λ (g : (i ≡ id) × (into ≡ a)). ⊎_elim
+              (λ (h : (j ≡ id) × (into ≡ b)). g.0 ∙ sym h.0)
+              (λ (h : (j ≢ id) × (j ≢ other) × (get_elem? vs j ≡ some b)). absurd (beside j n b h (subst (λ (u : View M C R). Met n u.account.joined) (sym g.1) ma) mb)) q)
+              (λ (g : (i ≢ id) × (i ≢ other) × (get_elem? vs i ≡ some a)). ⊎_elim
+              (λ (h : (j ≡ id) × (into ≡ b)). absurd (beside i n a g (subst (λ (u : View M C R). Met n u.account.joined) (sym h.1) mb) ma))
+              (λ (h : (j ≢ id) × (j ≢ other) × (get_elem? vs j ≡ some b)). once.elsewhere i j n a b g.2 h.2 ma mb) q) p) (met_in j b bj)) (met_in i a ai);
         }
 
     pub covered_end : v.numbered ≡ true → (n : ℕ) → IsCovered vs n → IsCovered after n

@@ -18,10 +18,10 @@ use Rattle.cops_gate.specs.declared.board.Stage.TheVariants.{Idle, Waits, Holds}
 use Rattle.cops_gate.specs.declared.board.View.{View}
 use Rattle.cops_gate.specs.History.{turn, turns_of, turns_at, StartsWith, Leads, IsLegal, IsWhole}
 use Rattle.cops_gate.specs.Accounts.{IsComplete, no_account}
-use Rattle.cops_gate.specs.Rule.{ticket_at, serving_at, Apart, AreCovered, HasTicket, HoldsItsTicket, AreCounted, IsCovered, IsOut, Kept, Knows, Met, Rests, Stands, newcomer}
+use Rattle.cops_gate.specs.Rule.{ticket_at, serving_at, Apart, AreCovered, AreDistinctNumbers, AreJoinedOnce, HasTicket, HoldsItsTicket, AreCounted, IsCovered, IsOut, Kept, Knows, Met, Rests, Stands, newcomer}
 use Rattle.cops_gate.specs.Plays.{Sat, at_stage, spent_view, published_view, fresh_view, fork_view, forked_view, numbered_view, told_view, joined_view, ended_view, KnowsTurnsOf, DrawnAt, HasRoom, PublishedAt, learned, glanced, drawn, published, looked, Gets}
 use Rattle.cops_gate.specs.Seats.{AreAtRest, AreMadeBy, ClosesWith, Known, Origin}
-use Rattle.cops_gate.proofs.Accounts.{all_by_it, all_seen, counted_again, counted_end, counted_fork, counted_more, covered_again, covered_end, covered_fork, covered_more, fork_joined_none, met_parts}
+use Rattle.cops_gate.proofs.Accounts.{all_by_it, all_distinct, all_seen, counted_again, counted_end, counted_fork, counted_more, covered_again, covered_end, covered_fork, covered_more, fork_joined_none, met_parts, once_again, once_end, once_fork, once_more}
 use Rattle.cops_gate.proofs.Ending.{all_joined, all_weaker}
 use Rattle.cops_gate.proofs.Histories.{starts_on, turns_other, turns_mine, node_other, node_mine, node_parts, none_before, placed_on}
 use Rattle.cops_gate.proofs.Words.{apart_words, word_there, ticket_else, ticket_here, ticket_serving, serving_ticket, serving_else, serving_here, true_not_false, waits_not_holds, idle_not_holds, waits_same, holds_same}
@@ -149,6 +149,7 @@ module _ {M C R P : Type 0} (turns : M → ℕ → ℕ → C → R → M → Typ
     unmade = λ j l. r.unmade j (subst (λ k. k ≤ j) (length-set s.views id w) l);
     apart = apart_set s.views id v w at (λ n t h. subst (HasTicket n t) same h) r.apart;
     counted = counted_again s.views id v w at still.0 still.1 r.counted;
+    once = once_again s.views id v w at (ap (λ (x : Account). x.joined) still.0) r.once;
     covered = still_covered s.views id v w r.log at still r.covered;
     each_node = λ m first there. stands_else s record { words = s.words; homes = s.homes; views = set s.views id w } r.log r.log m first refl refl refl refl
         (λ o. out_stays s.views id m (serving_at s.words m) v w at (λ e. same ∙ e) o) (r.each_node m first there);
@@ -160,9 +161,9 @@ module _ {M C R P : Type 0} (turns : M → ℕ → ℕ → C → R → M → Typ
   unmoved s r i id cs v w at mine same still = subst (λ (ws : List ℕ). Rule record { words = ws; homes = s.homes; views = set s.views id w }) (sym (set-get_or s.words i 0)) (reseat s r id v w at mine same still)
 
   -- a view comes that has made no turn
-  arrived : (s : St) (r : Rule s) (w : V) → w.stage ≡ Idle → ((j : ℕ) → turns_of j r.log ≡ [] → Knows from s.words r.log j w) → AreCounted (s.views ++ w ∷ []) → AreCovered (s.views ++ w ∷ []) r.log
+  arrived : (s : St) (r : Rule s) (w : V) → w.stage ≡ Idle → ((j : ℕ) → turns_of j r.log ≡ [] → Knows from s.words r.log j w) → AreCounted (s.views ++ w ∷ []) → w.account.joined ≡ [] → AreCovered (s.views ++ w ∷ []) r.log
       → Rule record { words = s.words; homes = s.homes; views = s.views ++ w ∷ [] }
-  arrived s r w idle new counted covered = record {
+  arrived s r w idle new counted none_joined covered = record {
     log = r.log;
     placed = r.placed;
     wide = r.wide;
@@ -174,6 +175,7 @@ module _ {M C R P : Type 0} (turns : M → ℕ → ℕ → C → R → M → Typ
         = λ k c e h. ⊎_elim (λ o. o) (λ (y : (k ≡ length s.views) × (w ≡ c)). absurd (subst (HasTicket n t) (ap (λ (z : V). z.stage) (sym y.1) ∙ idle) h)) (at_end s.views w c k e) in
         r.apart i j a b n t (old i a ai ha) (old j b bj hb) ha hb;
     counted = counted;
+    once = once_more s.views w none_joined r.once;
     covered = covered;
     each_node = λ m first there. stands_else s record { words = s.words; homes = s.homes; views = s.views ++ w ∷ [] } r.log r.log m first refl refl refl refl
         (λ out. (out.0, out.1, at_longer s.views (w ∷ []) out.0 out.1 out.2, out.3)) (r.each_node m first there);
@@ -208,6 +210,7 @@ module _ {M C R P : Type 0} (turns : M → ℕ → ℕ → C → R → M → Typ
         spent = k.spent;
       })
       (counted_more s.views (fresh_view v) refl refl r.counted)
+      refl
       (all_weaker (λ (t : Turn C R). IsCovered s.views t.seat) (λ (t : Turn C R). IsCovered (s.views ++ fresh_view v ∷ []) t.seat) r.log (λ t c. covered_more s.views (fresh_view v) t.seat c) r.covered))
 
   -- A split changes the account of the seat alone, so all else is that of a seat that stays beside a view that comes
@@ -243,6 +246,7 @@ module _ {M C R P : Type 0} (turns : M → ℕ → ℕ → C → R → M → Typ
             let old : (x : ℕ) (c : V) → get_elem? all x ≡ some c → HasTicket n t c.stage → get_elem? vs x ≡ some c = λ x c e h. ⊎_elim (λ o. o) (λ (y : (x ≡ length vs) × (new ≡ c)). absurd (subst (HasTicket n t) (ap (λ (z : V). z.stage) (sym y.1)) h)) (at_end vs new c x e) in
             apart_set s.views id v w at (λ m y h. h) r.apart i j a b n t (old i a ai ha) (old j b bj hb) ha hb;
         counted = counts;
+        once = once_fork s.views id v at seat r.counted r.once;
         covered = covers;
         each_node = λ m first there. stands_else s record { words = s.words; homes = s.homes; views = all } r.log r.log m first refl refl refl refl
             (λ o. let out = out_stays s.views id m (serving_at s.words m) v w at (λ e. e) o in (out.0, out.1, at_longer vs (new ∷ []) out.0 out.1 out.2, out.3)) (r.each_node m first there);
@@ -290,6 +294,7 @@ module _ {M C R P : Type 0} (turns : M → ℕ → ℕ → C → R → M → Typ
         unmade = λ j l. let one = length-set s.views id into in let two = length-set vs other ended_view in r.unmade j (omega arith);
         apart = apart_set vs other w ended_view there (λ n t h. absurd h) (apart_set s.views id v into at (λ n t h. h) r.apart);
         counted = counted_end s.views id other v w apart at there_before seat number r.counted;
+        once = once_end s.views id other v w apart at there_before seat number r.counted (o.seated known) r.once;
         covered = all_weaker (λ (t : Turn C R). IsCovered s.views t.seat) (λ (t : Turn C R). IsCovered all t.seat) r.log (λ t c. covered_end s.views id other v w apart at there_before seat number numbered t.seat c) r.covered;
         each_node = λ m first at_node. stands_else s record { words = s.words; homes = s.homes; views = all } r.log r.log m first refl refl refl refl
             (λ o. out_stays vs other m (serving_at s.words m) w ended_view there (λ e. absurd (idle_not_holds m (serving_at s.words m) (sym idle ∙ e))) (out_stays s.views id m (serving_at s.words m) v into at (λ e. e) o)) (r.each_node m first at_node);
@@ -401,6 +406,7 @@ module _ {M C R P : Type 0} (turns : M → ℕ → ℕ → C → R → M → Typ
         unmade = λ j l. r.unmade j (subst (λ y. y ≤ j) (length-set s.views id w) l);
         apart = apart_new s.views id n t w (λ j u y e h. subst (λ z. y < z) (sym is) (has_below s.words n y r.log u.seen u.stage (r.each_seat j u e).queues h)) (λ m y h. (sym h.0, sym h.1)) r.apart;
         counted = counted_again s.views id v w at refl refl r.counted;
+        once = once_again s.views id v w at refl r.once;
         covered = still_covered s.views id v w r.log at (refl, refl, (λ e. (e, refl))) r.covered;
         each_node = nodes_at (Stands turns place from.ticket s' r.log) n
             (λ f there. let q = r.each_node n f there in
@@ -480,6 +486,7 @@ module _ {M C R P : Type 0} (turns : M → ℕ → ℕ → C → R → M → Typ
         unmade = λ j l. r.unmade j (subst (λ x. x ≤ j) (length-set s.views id w) l);
         apart = apart_set s.views id v w at (λ m x e. subst (HasTicket m x) (sym waits) e) r.apart;
         counted = counted_again s.views id v w at refl refl r.counted;
+        once = once_again s.views id v w at refl r.once;
         covered = still_covered s.views id v w r.log at (refl, refl, (λ e. (e, refl))) r.covered;
         each_node = nodes_at (Stands turns place from.ticket s' r.log) n
             (λ f there. let p = r.each_node n f there in record {
@@ -592,6 +599,7 @@ module _ {M C R P : Type 0} (turns : M → ℕ → ℕ → C → R → M → Typ
         unmade = λ j l. let far : length s.views ≤ j = subst (λ y. y ≤ j) (length-set s.views id w) l in let in_range = at_below s.views id v at in others j (λ y. omega arith) ∙ r.unmade j far;
         apart = apart_set s.views id v w at (λ m y f. absurd f) r.apart;
         counted = counted_again s.views id v w at refl refl r.counted;
+        once = once_again s.views id v w at refl r.once;
         covered = all_joined (λ (y : Turn C R). IsCovered (set s.views id w) y.seat) r.log (it ∷ []) (still_covered s.views id v w r.log at (refl, refl, (λ f. (f, refl))) r.covered) ((id, w, set_at s.views id v w at, numbered, inl refl), tt);
         each_node = nodes_at (Stands turns place from.ticket s' log) n
             (λ f there. let p = r.each_node n f there in
@@ -683,6 +691,10 @@ module _ {M C R P : Type 0} (turns : M → ℕ → ℕ → C → R → M → Typ
           };
       gone = λ i a j ai met. absurd (subst (λ (x : V). Met j x.account.joined) (sym (only_one (newcomer from) a i ai).1) met);
     };
+    once = record {
+      here = λ i a ai. subst (λ (x : V). AreDistinctNumbers x.account.joined) (only_one (newcomer from) a i ai).1 tt;
+      elsewhere = λ i j n a b ai bj ma mb. (only_one (newcomer from) a i ai).0 ∙ sym (only_one (newcomer from) b j bj).0;
+    };
     covered = tt;
     each_node = λ n first there.
         let a : n < length from.states = at_below from.states n first there in
@@ -716,7 +728,7 @@ module _ {M C R P : Type 0} (turns : M → ℕ → ℕ → C → R → M → Typ
   abbrev Left : List (Turn C R) → ℕ → List ℕ → Account → List ℕ → List M → Type 0
   Left seen number spent account ws hs =
       (log : List (Turn C R)) × StartsWith log seen × (turns_of number log ≡ turns_of number seen)
-      × (IsComplete account → (log ≡ seen) × AreMadeBy (number ∷ account.joined) log)
+      × (IsComplete account → (log ≡ seen) × AreMadeBy (number ∷ account.joined) log × AreDistinctNumbers (number ∷ account.joined))
       × ((n x : ℕ) (first h : M) → get_elem? from.states n ≡ some first → get_or ws (16 * n) 0 ≡ x → get_or ws (16 * n + 1) 0 ≡ x → get_elem? hs n ≡ some h
       → Leads turns first (turns_at n log) h × (place h ≡ place first) × (Met n spent → from.ticket + length (turns_at n log) ≡ 2 ^ 62))
       × ((n : ℕ) → Met n spent → n < length from.states)
@@ -737,6 +749,7 @@ module _ {M C R P : Type 0} (turns : M → ℕ → ℕ → C → R → M → Typ
               all_seen (v.number ∷ v.account.joined) r.log v.seen k.seen made
                   (λ j met. ⊎_elim (λ this. subst (λ i. turns_of i r.log ≡ turns_of i v.seen) (sym (this ∙ number)) (k.owns.0 numbered).1) (λ earlier. k.joined j earlier) met),
               made,
+              all_distinct s.views id v r.counted r.once final.1.1 (k.seated numbered) number,
             )),
         (λ n x first h known ticket serving there.
             let p = r.each_node n first known in
@@ -770,7 +783,7 @@ module _ {M C R P : Type 0} (turns : M → ℕ → ℕ → C → R → M → Typ
       let r = closes id v ws hs numbered final in
       subst (λ (x : List M × ℕ × List (Turn C R) × ℕ × List ℕ × Account).
       (log : List (Turn C R)) × StartsWith log x.2 × (turns_of x.3 log ≡ turns_of x.3 x.2)
-      × (IsComplete x.5 → (log ≡ x.2) × AreMadeBy (x.3 ∷ x.5.joined) log)
+      × (IsComplete x.5 → (log ≡ x.2) × AreMadeBy (x.3 ∷ x.5.joined) log × AreDistinctNumbers (x.3 ∷ x.5.joined))
       × ((node : ℕ) (first machine : M) → get_elem? x.0 node ≡ some first → get_elem? given node ≡ some (Some machine)
       → Leads turns first (turns_at node log) machine × (place machine ≡ place first) × (Met node x.4 → x.1 + length (turns_at node log) ≡ 2 ^ 62))
       × ((node : ℕ) → Met node x.4 → node < length x.0)) (λ i. (opened i, begun i, saw i, number i, spent i, account i))

@@ -7,7 +7,7 @@ use Rattle.cops_gate.specs.declared.history.Turn.{Turn}
 use Rattle.cops_gate.specs.Filtered.{GrowsThere}
 use Rattle.cops_gate.specs.History.{entry, turns_of, turns_at, StartsWith, Leads, Grows}
 use Rattle.cops_gate.specs.Plays.{HasRoom}
-use Rattle.cops_gate.specs.Rule.{Met}
+use Rattle.cops_gate.specs.Rule.{AreDistinctNumbers, Met}
 use Rattle.cops_gate.specs.Accounts.{IsComplete}
 use Rattle.cops_gate.specs.Seats.{AreMadeBy, ClosesWith, GateHome, Known, Origin}
 use Rattle.cops_gate.specs.Single.{ClosesAlone, SingleOrigin, single_home}
@@ -57,8 +57,11 @@ module _ {M C R : Type 0} (turns : M → ℕ → ℕ → C → R → M → Type 
           subst (λ o. Leads turns o log machine) (sym is) left.0,
           subst (λ n. turns_of n log ≡ turns_of n mine.history) (sym number) (same_turns seat.number seat.number ends.0 seat.history ends.2 ∙ ap (turns_of seat.number) (sym history)),
           (λ complete.
-              let all = ends.3 (subst IsComplete account complete) in
-              (ap (turns_at 0) all.0 ∙ sym history, subst (λ (x : ℕ × Account). AreMadeBy (x.0 ∷ x.1.joined) log) (λ i. (sym number i, sym account i)) (made_at (seat.number ∷ seat.account.joined) ends.0 all.1))),
+              let all = ends.3 (subst IsComplete account complete) in (
+                ap (turns_at 0) all.0 ∙ sym history,
+                subst (λ (x : ℕ × Account). AreMadeBy (x.0 ∷ x.1.joined) log) (λ i. (sym number i, sym account i)) (made_at (seat.number ∷ seat.account.joined) ends.0 all.1),
+                subst (λ (x : ℕ × Account). AreDistinctNumbers (x.0 ∷ x.1.joined)) (λ i. (sym number i, sym account i)) all.2,
+              )),
           (λ met. ap (λ t. t + length log) ticket ∙ left.2 (subst (Met 0) spent met)),
         ),
         left.1,

@@ -11,7 +11,7 @@ use Rattle.cops_gate.specs.declared.history.Entry.{Entry}
 use Rattle.cops_gate.specs.declared.history.Turn.{Turn}
 use Rattle.cops_gate.specs.Accounts.{IsComplete, first_of, forked, joined_with}
 use Rattle.cops_gate.specs.History.{turns_of, turns_at, entry, StartsWith, Leads, Grows, LeavesLacking}
-use Rattle.cops_gate.specs.Rule.{Met}
+use Rattle.cops_gate.specs.Rule.{AreDistinctNumbers, Met}
 
 -- the identity of a gate, the states that its nodes opened with, and the number of their first tickets
 pub record Origin (M : Type 0) : Type 0 where
@@ -60,9 +60,9 @@ abbrev pub AreMadeBy : {C R : Type 0} → List ℕ → List (Turn C R) → Type 
 AreMadeBy {C} {R} numbers log = AllByRecursion (λ (t : Turn C R). Met t.seat numbers) log
 
 -- If the seat is the first one, and each seat that was split off from it has ended into it, then it has seen the whole history. Each turn is its
--- own or was made by a seat that has ended into it
+-- own or was made by a seat that has ended into it. No two of these seats have one number
 abbrev pub HasAllTurns : {M C R : Type 0} → List (Turn C R) → Known M C R → Type 0
-HasAllTurns log seat = IsComplete seat.account → (log ≡ seat.history) × AreMadeBy (seat.number ∷ seat.account.joined) log
+HasAllTurns log seat = IsComplete seat.account → (log ≡ seat.history) × AreMadeBy (seat.number ∷ seat.account.joined) log × AreDistinctNumbers (seat.number ∷ seat.account.joined)
 
 -- the seat has made one turn more at this node, a no-op turn if there is no entry
 abbrev pub Extends : {M C R : Type 0} → (M → ℕ → ℕ → C → R → M → Type 0) → List M → ℕ → Known M C R → Option (Entry C R) → Known M C R → Type 0
