@@ -7,7 +7,7 @@ use Rattle.cops_gate.specs.declared.board.Account.{Account}
 use Rattle.cops_gate.specs.declared.history.Turn.{Turn}
 use Rattle.cops_gate.specs.Accounts.{IsComplete, counted_account, first_of, forked}
 use Rattle.cops_gate.specs.History.{turns_at, turns_of}
-use Rattle.cops_gate.specs.Rule.{Met}
+use Rattle.cops_gate.specs.Rule.{AreDistinctNumbers, Met}
 use Rattle.cops_gate.specs.Seats.{AreMadeBy, HasAllOf, Known, Origin, all_joined, all_spent, first_seat, split_off}
 use Rattle.cops_gate.proofs.Ending.{all_joined as all_parts, all_weaker}
 use Rattle.cops_node.specs.Clusters.{new_nodes}
@@ -121,5 +121,6 @@ module _ {M : Type 0} (Gives : M → ℕ → M → Type 0) (moments : M) (config
         whole = whole.0;
         seen = seen;
         made = subst (λ numbers. AreMadeBy numbers ends.1) joined (not_by seat.number seat.account.joined ends.1 (ends.3 ∙ seen.no_turn) whole.1);
+        apart = subst AreDistinctNumbers joined whole.2.1;
         exhausted = λ node met. let full : cluster.gate.ticket + length (turns_at node ends.1) ≡ 2 ^ 62 = ends.6 node met in omega (arith, ticket, full);
       }

@@ -5,7 +5,7 @@ use Rattle.cops_types.specs.declared.configs.Config.{Config}
 use Rattle.cops_types.specs.HeadLines.{are_sizes}
 use Rattle.cops_gate.specs.Accounts.{counted_account, first_of}
 use Rattle.cops_gate.specs.History.{turns_at}
-use Rattle.cops_gate.specs.Rule.{Met}
+use Rattle.cops_gate.specs.Rule.{AreDistinctNumbers, Met}
 use Rattle.cops_gate.specs.Seats.{AreMadeBy, HasAllOf, all_joined, all_spent}
 use Rattle.cops_node.specs.Clusters.{new_nodes, shape_of}
 use Rattle.cops_node.specs.Parts.{Shared}
@@ -76,8 +76,8 @@ module _ {M : Type 0} (Gives : M → ℕ → M → Type 0) (moments : M) (config
     pub spent : seat.spent ≡ all_spent [] seats
 
 -- One history leaves these nodes from the new ones of the configuration. It has all that the threads' seats saw, and each of its turns was made by one
--- of these seats. The turns of a seat are those that it made: conversations of a worker, carriers, or collections. At a node at which one of them met
--- the last ticket, 2^62 turns were made.
+-- of these seats, no two of which have one number. The turns of a seat are those that it made: conversations of a worker, carriers, or collections.
+-- At a node at which one of them met the last ticket, 2^62 turns were made.
 pub record AreServedBy {M : Type 0} (Gives : M → ℕ → M → Type 0) (moments : M) (config : Config) (workers : ℕ) (nodes : List Shared) : Type 0 where
   pub cluster : Gates Shared
   pub opened : openings cluster ≡ (new_nodes config).nodes
@@ -88,4 +88,5 @@ pub record AreServedBy {M : Type 0} (Gives : M → ℕ → M → Type 0) (moment
   pub whole : log ≡ last.history
   pub seen : HasSeenCrew Gives moments config cluster workers last
   pub made : AreMadeBy (map (λ (s : NodeSeat). s.number) seen.seats) log
+  pub apart : AreDistinctNumbers (map (λ (s : NodeSeat). s.number) seen.seats)
   pub exhausted : (node : ℕ) → Met node last.spent → length (turns_at node log) ≡ 2 ^ 62
