@@ -1,10 +1,11 @@
 -- A connection that was served, as the commands of its session.
 use Rattle.std.proofs.Common.{◌≡◌, ◌⊎◌, ℕ, zero, suc, Bool, true, false, cond, not, List, [], ◌∷◌, ◌++◌, length, inl, inr, refl, sym, ap, subst, ◌∙◌, append-nil, true≢false}
 use Rattle.std.specs.Prelude.{Option, Some, None, Result, Ok, Err, nat_le, nat_lt}
-use Rattle.std.specs.List.{list_all}
+use Rattle.std.specs.List.{AllByRecursion, list_all}
 use Rattle.std.specs.Option.{option_or}
 use Rattle.std.proofs.lemmas.Bool.{leb-false, lt-ltb}
 use Rattle.std.proofs.lemmas.Grind.{flat_map-append}
+use Rattle.cops_types.proofs.Elements.{Every-append}
 use Rattle.cops_types.specs.declared.faults.Fault.{Fault}
 use Rattle.cops_types.specs.declared.request_errors.RequestError.{RequestError}
 use Rattle.cops_types.specs.declared.faults.Fault.TheVariants.{OutOfMemory, Syntax, BadKey, ValueTooLong}
@@ -44,7 +45,7 @@ use Rattle.cops_history.specs.Turns.{Turn}
 use Rattle.cops_history.specs.Commands as commands
 use Rattle.cops_history.specs.Commands.{Command, Does, turn_made_by}
 use Rattle.cops_history.specs.History.{Told, Behaves}
-use Rattle.cops_served.specs.Conversations.{AnswersEach, AnswersOne, IsConversationOf, MakesTurns, message_of_reply, messages_told, turns_of_told}
+use Rattle.cops_served.specs.Conversations.{AnswersEach, AnswersOne, IsConversationOf, MakesTurns, command_asked, is_step, message_of_reply, messages_told, turns_of_told}
 
 -- ---- greetings
 
@@ -165,30 +166,34 @@ module _ {N M : Type 0} (Calls : N → NodeId → ℕ → ℕ → NodeCall → N
 
   -- ---- a step
 
-  -- one command led there, and its reply is what the step showed
-  abbrev IsStep : At → Progress → At → Type 0
-  IsStep old shown new = (led : Led old new) × (messages_told led.did ≡ message_of_reply (reply_of_progress shown))
+  abbrev AreSteps : List Told → Type 0
+  AreSteps did = AllByRecursion (λ (t : Told). is_step t.command ≡ true) did
 
-  one_command : (old new : At) (command : Command) (shown : Progress) → Does config (Some (OfSession old.session)) command (reply_of_progress shown) (Some (OfSession new.session))
+  -- one command led there, which is a step, and its reply is what the step showed
+  abbrev IsStep : At → Progress → At → Type 0
+  IsStep old shown new = (led : Led old new) × (messages_told led.did ≡ message_of_reply (reply_of_progress shown)) × AreSteps led.did
+
+  one_command : (old new : At) (command : Command) (shown : Progress) → is_step command ≡ true → Does config (Some (OfSession old.session)) command (reply_of_progress shown) (Some (OfSession new.session))
       → MakesTurns Calls slot old.nodes (turn_made_by command) new.nodes → IsStep old shown new
-  one_command old new command shown does made = (
+  one_command old new command shown is does made = (
     record {
       did = record { command = command; reply = reply_of_progress shown } ∷ [];
       chain = (Some (OfSession new.session), does, refl);
       made = subst (λ ts. MakesTurns Calls slot old.nodes ts new.nodes) (sym (append-nil (turn_made_by command))) made;
     },
     append-nil (message_of_reply (reply_of_progress shown)),
+    (is, tt),
   )
 
   -- a step that shows what the definition's does
-  as_defined : (old new : At) (command : Command) (shown told : Progress) (running : Running) (step : LogStep) → shown ≡ progress config (request_of old.session running) running.log step
+  as_defined : (old new : At) (command : Command) (shown told : Progress) (running : Running) (step : LogStep) → is_step command ≡ true → shown ≡ progress config (request_of old.session running) running.log step
       → new.session ≡ session_after old.session running step shown → told ≡ progress config (request_of old.session running) running.log step
       → Does config (Some (OfSession old.session)) command (reply_of_progress told) (Some (OfSession (session_after old.session running step told)))
       → MakesTurns Calls slot old.nodes (turn_made_by command) new.nodes → IsStep old shown new
-  as_defined old new command shown told running step shown_is after_is told_is does made =
+  as_defined old new command shown told running step is shown_is after_is told_is does made =
       let same : told ≡ shown = told_is ∙ sym shown_is in
       let after : session_after old.session running step told ≡ new.session = ap (session_after old.session running step) same ∙ sym after_is in
-      one_command old new command shown
+      one_command old new command shown is
       (subst (λ a. Does config (Some (OfSession old.session)) command (reply_of_progress shown) (Some (OfSession a))) after
       (subst (λ p. Does config (Some (OfSession old.session)) command (reply_of_progress p) (Some (OfSession (session_after old.session running step told)))) same does)) made
 
@@ -213,7 +218,7 @@ module _ {N M : Type 0} (Calls : N → NodeId → ℕ → ℕ → NodeCall → N
 
       defined : shown ≡ progress config (request_of old.session running) running.log (record { moment = moment_at given old.session; outcome = Replied node }) → IsStep old shown new
       defined shown_is =
-          as_defined old new (commands.Steps given t) shown (progress config (request_of old.session running) running.log step) running step shown_is has.after_is refl
+          as_defined old new (commands.Steps given t) shown (progress config (request_of old.session running) running.log step) running step refl shown_is has.after_is refl
           (old.session, running, refl, runs, is, refl, (refl, refl)) made
 
       by_want : shown ≡ Done (answer.Refused OutOfMemory) →
@@ -224,7 +229,7 @@ module _ {N M : Type 0} (Calls : N → NodeId → ℕ → ℕ → NodeCall → N
       by_want lack (inr (keys, fetches, ends)) =
           let after : new.session ≡ request_dropped at old.session =
           has.after_is ∙ ap (session_after old.session running step) lack ∙ dropped config old.session running at node keys fetches ends in
-          one_command old new (commands.StepsUnread given t) shown
+          one_command old new (commands.StepsUnread given t) shown refl
           (old.session, running, refl, runs, is, refl, (keys, fetches, ends), ap reply_of_progress lack, ap (λ (s : Session). Some (OfSession s)) after) made
 
       by : (shown ≡ progress config (request_of old.session running) running.log (record { moment = moment_at given old.session; outcome = Replied node })) ⊎ (shown ≡ Done (answer.Refused OutOfMemory)) → IsStep old shown new
@@ -242,7 +247,7 @@ module _ {N M : Type 0} (Calls : N → NodeId → ℕ → ℕ → NodeCall → N
 
       by : (shown ≡ progress config (request_of old.session running) running.log (record { moment = moment_at given old.session; outcome = Late })) ⊎ (shown ≡ Done (answer.Refused OutOfMemory)) → IsStep old shown new
       by (inl defined_so) =
-          as_defined old new (commands.StepsLate given) shown (progress config (request_of old.session running) running.log step) running step defined_so d.1.after_is refl
+          as_defined old new (commands.StepsLate given) shown (progress config (request_of old.session running) running.log step) running step refl defined_so d.1.after_is refl
           (old.session, running, refl, runs, is, (refl, refl)) d.0
       by (inr lack) = absurd (late_wants config (request_of old.session running) running.log (moment_at given old.session) running.action (d.1.wants lack))
   next_step old new running given shown (Call directed) runs is d = step_calls old new running given shown d.0 directed.node directed.call runs is d.2 d.1
@@ -254,41 +259,41 @@ module _ {N M : Type 0} (Calls : N → NodeId → ℕ → ℕ → NodeCall → N
   -- ---- a request that runs
 
   abbrev IsEnd : At → Answer → At → Type 0
-  IsEnd old ended new = (led : Led old new) × (messages_told led.did ≡ message_of_answer ended ∷ [])
+  IsEnd old ended new = (led : Led old new) × (messages_told led.did ≡ message_of_answer ended ∷ []) × AreSteps led.did
 
   ends : (steps : ℕ) (old new : At) (ended : Answer) → EndsAfter Calls Gives config slot steps old ended new → IsEnd old ended new
-  ends zero old new ended s = let step = one_step old new (Done ended) s in (step.0, step.1 ∙ message_of_ended ended)
+  ends zero old new ended s = let step = one_step old new (Done ended) s in (step.0, step.1 ∙ message_of_ended ended, step.2)
   ends (suc steps) old new ended h =
       let step = one_step old h.1 h.0 h.2 in
       let rest = ends steps h.1 new ended h.4 in
-      (both old h.1 new step.0 rest.0, messages_both step.0.did rest.0.did ∙ ap (λ ms. ms ++ messages_told rest.0.did) (step.1 ∙ no_message h.0 h.3) ∙ rest.1)
+      (both old h.1 new step.0 rest.0, messages_both step.0.did rest.0.did ∙ ap (λ ms. ms ++ messages_told rest.0.did) (step.1 ∙ no_message h.0 h.3) ∙ rest.1, Every-append (λ (t : Told). is_step t.command ≡ true) step.0.did rest.0.did step.2 rest.2)
 
   -- ---- requests
 
   -- the request was answered by these commands
-  abbrev IsReply : At → Message → At → Type 0
-  IsReply old message new = (led : Led old new) × AnswersOne message led.did
+  abbrev IsReply : At → Message → Message → At → Type 0
+  IsReply old request message new = (led : Led old new) × AnswersOne request message led.did
 
   -- it was refused at once
-  refused : (old new : At) (fault : Fault) (message : Message) → message ≡ Refused fault → new ≡ old → IsReply old message new
-  refused old new fault message is same = subst (IsReply old message) (sym same) (stays old, inl (refl, (fault, is)))
+  refused : (old new : At) (fault : Fault) (request message : Message) → message ≡ Refused fault → new ≡ old → IsReply old request message new
+  refused old new fault request message is same = subst (IsReply old request message) (sym same) (stays old, inl (refl, (fault, is)))
 
   -- it had its effect at once
-  became : (old new : At) (command : Command) (told : Reply) (message : Message) (after : Session) → message_of_reply told ≡ message ∷ [] → turn_made_by command ≡ []
-      → Does config (Some (OfSession old.session)) command told (Some (OfSession after)) → new ≡ backend after old.nodes old.moments → IsReply old message new
-  became old new command told message after says silent does is = (
+  became : (old new : At) (command : Command) (told : Reply) (request message : Message) (after : Session) → command_asked request ≡ Some command → message_of_reply told ≡ message ∷ [] → turn_made_by command ≡ []
+      → Does config (Some (OfSession old.session)) command told (Some (OfSession after)) → new ≡ backend after old.nodes old.moments → IsReply old request message new
+  became old new command told request message after asks says silent does is = (
     record {
       did = record { command = command; reply = told } ∷ [];
       chain = (Some (OfSession after), does, ap (λ (b : At). Some (OfSession b.session)) is);
       made = subst (λ ts. MakesTurns Calls slot old.nodes ts new.nodes) (sym (append-nil (turn_made_by command) ∙ silent)) (ap (λ (b : At). b.nodes) is);
     },
-    inr (append-nil (message_of_reply told) ∙ says),
+    inr (record { command = command; reply = told }, [], refl, asks, tt, append-nil (message_of_reply told) ∙ says),
   )
 
   -- it began, and ran
-  ran : (old new : At) (command : Command) (context : ℕ) (action : Action) (message : Message) → turn_made_by command ≡ []
-      → Does config (Some (OfSession old.session)) command reply.Started (Some (OfSession (request_begun context action old.session))) → Runs Calls Gives config slot old context action message new → IsReply old message new
-  ran old new command context action message silent does h =
+  ran : (old new : At) (command : Command) (context : ℕ) (action : Action) (request message : Message) → command_asked request ≡ Some command → turn_made_by command ≡ []
+      → Does config (Some (OfSession old.session)) command reply.Started (Some (OfSession (request_begun context action old.session))) → Runs Calls Gives config slot old context action message new → IsReply old request message new
+  ran old new command context action request message asks silent does h =
       let begun : At = backend (request_begun context action old.session) old.nodes old.moments in
       let first : Led old begun = record {
         did = record { command = command; reply = reply.Started } ∷ [];
@@ -296,59 +301,59 @@ module _ {N M : Type 0} (Calls : N → NodeId → ℕ → ℕ → NodeCall → N
         made = subst (λ ts. MakesTurns Calls slot old.nodes ts old.nodes) (sym (append-nil (turn_made_by command) ∙ silent)) refl;
       } in
       let rest = ends h.2.0 begun new h.0 h.2.1 in
-      (both old begun new first rest.0, inr (messages_both first.did rest.0.did ∙ rest.1 ∙ ap (λ m. m ∷ []) (sym h.1.gives)))
+      (both old begun new first rest.0, inr (record { command = command; reply = reply.Started }, rest.0.did, refl, asks, rest.2, messages_both first.did rest.0.did ∙ rest.1 ∙ ap (λ m. m ∷ []) (sym h.1.gives)))
 
-  by_request : (old new : At) (request message : Message) → AnswersSo Calls Gives config slot old request message new → IsReply old message new
+  by_request : (old new : At) (request message : Message) → AnswersSo Calls Gives config slot old request message new → IsReply old request message new
   by_request old new CreateContext message h = by (create_refusal config old.session) refl h
     where
-      by : (o : Option Fault) → create_refusal config old.session ≡ o → UnlessRefused Calls Gives config slot o old message new (Becomes Calls Gives config slot old (context_created old.session) (Created (wire_of context_tag old.session.next_context)) message new) → IsReply old message new
-      by (Some fault) is h = refused old new fault message h.0 h.1
-      by None is h = became old new commands.Creates (reply.Created old.session.next_context) message (context_created old.session) (ap (λ m. m ∷ []) (sym h.0)) refl (old.session, refl, is, refl, refl) h.1
+      by : (o : Option Fault) → create_refusal config old.session ≡ o → UnlessRefused Calls Gives config slot o old message new (Becomes Calls Gives config slot old (context_created old.session) (Created (wire_of context_tag old.session.next_context)) message new) → IsReply old CreateContext message new
+      by (Some fault) is h = refused old new fault CreateContext message h.0 h.1
+      by None is h = became old new commands.Creates (reply.Created old.session.next_context) CreateContext message (context_created old.session) refl (ap (λ m. m ∷ []) (sym h.0)) refl (old.session, refl, is, refl, refl) h.1
   by_request old new (DeleteContext handle) message h = by (deletion_refusal handle old.session) refl h
     where
-      by : (o : Option Fault) → deletion_refusal handle old.session ≡ o → UnlessRefused Calls Gives config slot o old message new (Becomes Calls Gives config slot old (context_deleted (number_in handle) old.session) Deleted message new) → IsReply old message new
-      by (Some fault) is h = refused old new fault message h.0 h.1
+      by : (o : Option Fault) → deletion_refusal handle old.session ≡ o → UnlessRefused Calls Gives config slot o old message new (Becomes Calls Gives config slot old (context_deleted (number_in handle) old.session) Deleted message new) → IsReply old (DeleteContext handle) message new
+      by (Some fault) is h = refused old new fault (DeleteContext handle) message h.0 h.1
       by None is h =
           let allowed : context_refusal (number_in handle) old.session ≡ None = (or_first (naming_refusal handle old.session) (context_refusal (number_in handle) old.session) is).1 in
-          became old new (commands.Deletes (number_in handle)) reply.Deleted message (context_deleted (number_in handle) old.session) (ap (λ m. m ∷ []) (sym h.0)) refl (old.session, refl, allowed, refl, refl) h.1
+          became old new (commands.Deletes (number_in handle)) reply.Deleted (DeleteContext handle) message (context_deleted (number_in handle) old.session) refl (ap (λ m. m ∷ []) (sym h.0)) refl (old.session, refl, allowed, refl, refl) h.1
   by_request old new (Put handle key value) message h = by (writing_refusal config handle key value old.session) refl h
     where
-      by : (o : Option Fault) → writing_refusal config handle key value old.session ≡ o → UnlessRefused Calls Gives config slot o old message new (Runs Calls Gives config slot old (number_in handle) (Write key value) message new) → IsReply old message new
-      by (Some fault) is h = refused old new fault message h.0 h.1
+      by : (o : Option Fault) → writing_refusal config handle key value old.session ≡ o → UnlessRefused Calls Gives config slot o old message new (Runs Calls Gives config slot old (number_in handle) (Write key value) message new) → IsReply old (Put handle key value) message new
+      by (Some fault) is h = refused old new fault (Put handle key value) message h.0 h.1
       by None is h =
           let first = or_first (first_refusal ((not (is_key key), BadKey) ∷ (is_too_long value, ValueTooLong) ∷ [])) (option_or (naming_refusal handle old.session) (session_put_refusal config (number_in handle) key old.session)) is in
           let allowed : session_put_refusal config (number_in handle) key old.session ≡ None = (or_first (naming_refusal handle old.session) (session_put_refusal config (number_in handle) key old.session) first.1).1 in
           let of_key = head_passes (not (is_key key)) BadKey ((is_too_long value, ValueTooLong) ∷ []) first.0 in
           let of_value = head_passes (is_too_long value) ValueTooLong [] of_key.1 in
-          ran old new (commands.Puts (number_in handle) key value) (number_in handle) (Write key value) message refl
+          ran old new (commands.Puts (number_in handle) key value) (number_in handle) (Write key value) (Put handle key value) message refl refl
           (flipped (is_key key) of_key.0, short value of_value.0, (old.session, refl, allowed, refl, refl)) h
   by_request old new (GetTrans handle keys) message h = by (reading_refusal config handle keys old.session) refl h
     where
-      by : (o : Option Fault) → reading_refusal config handle keys old.session ≡ o → UnlessRefused Calls Gives config slot o old message new (Runs Calls Gives config slot old (number_in handle) (Fetch keys) message new) → IsReply old message new
-      by (Some fault) is h = refused old new fault message h.0 h.1
+      by : (o : Option Fault) → reading_refusal config handle keys old.session ≡ o → UnlessRefused Calls Gives config slot o old message new (Runs Calls Gives config slot old (number_in handle) (Fetch keys) message new) → IsReply old (GetTrans handle keys) message new
+      by (Some fault) is h = refused old new fault (GetTrans handle keys) message h.0 h.1
       by None is h =
           let first = or_first (first_refusal ((nat_lt (length keys) 1, Syntax) ∷ (not (list_all is_key keys), BadKey) ∷ [])) (option_or (naming_refusal handle old.session) (get_refusal config (number_in handle) keys old.session)) is in
           let allowed : get_refusal config (number_in handle) keys old.session ≡ None = (or_first (naming_refusal handle old.session) (get_refusal config (number_in handle) keys old.session) first.1).1 in
           let some = head_passes (nat_lt (length keys) 1) Syntax ((not (list_all is_key keys), BadKey) ∷ []) first.0 in
           let are = head_passes (not (list_all is_key keys)) BadKey [] some.1 in
-          ran old new (commands.Gets (number_in handle) keys) (number_in handle) (Fetch keys) message refl
+          ran old new (commands.Gets (number_in handle) keys) (number_in handle) (Fetch keys) (GetTrans handle keys) message refl refl
           (some.0, flipped (list_all is_key keys) are.0, (old.session, refl, allowed, refl, refl)) h
   by_request old new others message h = absurd h
 
   -- ---- connections
 
-  all_requests : (requests messages : List Message) (old new : At) → Serves (Answers Calls Gives config slot) old requests messages new → (led : Led old new) × AnswersEach messages led.did
+  all_requests : (requests messages : List Message) (old new : At) → Serves (Answers Calls Gives config slot) old requests messages new → (led : Led old new) × AnswersEach requests messages led.did
   all_requests [] messages old new h =
-      subst (λ ms. (led : Led old new) × AnswersEach ms led.did) (sym h.0) (subst (λ at. (led : Led old at) × AnswersEach [] led.did) (sym h.1) (stays old, refl))
+      subst (λ ms. (led : Led old new) × AnswersEach [] ms led.did) (sym h.0) (subst (λ at. (led : Led old at) × AnswersEach [] [] led.did) (sym h.1) (stays old, refl))
   all_requests (request ∷ requests) messages old new h =
-      let told : IsReply old h.0 h.1 = elim h.3 [ inl lack ↦ refused old h.1 OutOfMemory h.0 lack.0 lack.1 | inr so ↦ by_request old h.1 request h.0 so ] in
+      let told : IsReply old request h.0 h.1 = elim h.3 [ inl lack ↦ refused old h.1 OutOfMemory request h.0 lack.0 lack.1 | inr so ↦ by_request old h.1 request h.0 so ] in
       let later = all_requests requests h.2 h.1 new h.4 in
-      subst (λ ms. (led : Led old new) × AnswersEach ms led.did) (sym h.5)
+      subst (λ ms. (led : Led old new) × AnswersEach (request ∷ requests) ms led.did) (sym h.5)
       (both old h.1 new told.0 later.0, (told.0.did, later.0.did, refl, told.1, later.1))
 
   pub conversation : (dc : ℕ) (requests messages : List Message) (nodes new_nodes : N) (moments new_moments : M) (after : Session) → nat_lt dc config.data_centres ≡ true
       → Serves (Answers Calls Gives config slot) (backend (new_session dc 1) nodes moments) requests messages (backend after new_nodes new_moments)
-      → IsConversationOf Calls config slot dc nodes new_nodes messages
+      → IsConversationOf Calls config slot dc nodes new_nodes requests messages
   conversation dc requests messages nodes new_nodes moments new_moments after there h =
       let all = all_requests requests messages (backend (new_session dc 1) nodes moments) (backend after new_nodes new_moments) h in
       record {

@@ -1,5 +1,5 @@
--- What a conversation is in a history: the commands of its session, and the calls that they made.
-use Rattle.std.specs.Prelude.{◌≡◌, ◌⊎◌, ℕ, Bool, false, List, [], ◌∷◌, ◌++◌, None}
+-- What a conversation is in a history: the commands of its session, which its client's requests began, and the calls that they made.
+use Rattle.std.specs.Prelude.{◌≡◌, ◌⊎◌, ℕ, Bool, true, false, List, [], ◌∷◌, ◌++◌, Option, Some, None}
 use Rattle.std.specs.List.{AllByRecursion, flat_map}
 use Rattle.cops_types.specs.declared.faults.Fault.{Fault}
 use Rattle.cops_types.specs.TenantConfig.{TenantConfig}
@@ -12,10 +12,10 @@ use Rattle.cops_model.specs.declared.replies.Reply.TheVariants as reply
 use Rattle.cops_model.specs.declared.requests.Answer.TheVariants as answer
 use Rattle.cops_session.specs.Tags.{context_tag}
 use Rattle.cops_wire.specs.declared.messages.Message.{Message}
-use Rattle.cops_wire.specs.declared.messages.Message.TheVariants.{Created, Deleted, Refused}
-use Rattle.cops_wire.specs.Requests.{message_of_answer}
+use Rattle.cops_wire.specs.declared.messages.Message.TheVariants.{CreateContext, Created, DeleteContext, Deleted, GetTrans, Put, Refused}
+use Rattle.cops_wire.specs.Requests.{message_of_answer, number_in}
 use Rattle.cops_history.specs.Turns.{Turn}
-use Rattle.cops_history.specs.Commands.{Opens, turn_made_by}
+use Rattle.cops_history.specs.Commands.{Command, Creates, Deletes, Gets, Opens, Puts, Steps, StepsLate, StepsUnread, turn_made_by}
 use Rattle.cops_history.specs.History.{Told, Behaves}
 
 -- these calls were made for the tenant of this slot, one after another, and had these replies
@@ -53,18 +53,40 @@ message_of_reply others = []
 abbrev pub messages_told : List Told → List Message
 messages_told did = flat_map (λ t. message_of_reply t.reply) did
 
--- these commands answered one request: it was refused at once and there are none, or their replies make up this message
-abbrev pub AnswersOne : Message → List Told → Type 0
-AnswersOne message did = ((did ≡ []) × ((fault : Fault) × (message ≡ Refused fault))) ⊎ (messages_told did ≡ message ∷ [])
+-- the command that a request begins with
+abbrev pub command_asked : Message → Option Command
+command_asked CreateContext = Some Creates
+command_asked (DeleteContext handle) = Some (Deletes (number_in handle))
+command_asked (Put handle key value) = Some (Puts (number_in handle) key value)
+command_asked (GetTrans handle keys) = Some (Gets (number_in handle) keys)
+command_asked others = None
 
--- each request was answered so, in order
-abbrev pub AnswersEach : List Message → List Told → Type 0
-AnswersEach [] did = did ≡ []
-AnswersEach (message ∷ messages) did = (here : List Told) × (later : List Told) × (did ≡ here ++ later) × AnswersOne message here × AnswersEach messages later
+-- the command goes on with what began
+abbrev pub is_step : Command → Bool
+is_step (StepsLate given) = true
+is_step (Steps given t) = true
+is_step (StepsUnread given t) = true
+is_step others = false
 
--- A session was opened and carried out these commands. Their turns are the calls that were made, and their replies are the messages to its client.
-pub record IsConversationOf {N : Type 0} (Calls : N → NodeId → ℕ → ℕ → NodeCall → NodeReply → N → Type 0) (config : TenantConfig) (slot dc : ℕ) (old new : N) (messages : List Message) : Type 0 where
+-- These commands answered one request. It was refused at once, and there are none; or the first is the request's own, the others are its steps, and
+-- their replies make up this message
+abbrev pub AnswersOne : Message → Message → List Told → Type 0
+AnswersOne request message did =
+    ((did ≡ []) × ((fault : Fault) × (message ≡ Refused fault)))
+    ⊎ ((asked : Told) × (steps : List Told) × (did ≡ asked ∷ steps) × (command_asked request ≡ Some asked.command) × AllByRecursion (λ (t : Told). is_step t.command ≡ true) steps × (messages_told did ≡ message ∷ []))
+
+-- each of these requests was answered so by the message at its place, in order
+abbrev pub AnswersEach : List Message → List Message → List Told → Type 0
+AnswersEach [] [] did = did ≡ []
+AnswersEach [] (message ∷ messages) did = ⊥
+AnswersEach (request ∷ requests) [] did = ⊥
+AnswersEach (request ∷ requests) (message ∷ messages) did =
+    (here : List Told) × (later : List Told) × (did ≡ here ++ later) × AnswersOne request message here × AnswersEach requests messages later
+
+-- A session was opened and carried out these commands. Their turns are the calls that were made. They are its client's requests, and their replies are the
+-- messages to it.
+pub record IsConversationOf {N : Type 0} (Calls : N → NodeId → ℕ → ℕ → NodeCall → NodeReply → N → Type 0) (config : TenantConfig) (slot dc : ℕ) (old new : N) (requests messages : List Message) : Type 0 where
   pub did : List Told
   pub behaves : Behaves config None (record { command = Opens dc; reply = reply.Opened } ∷ did)
   pub made : MakesTurns Calls slot old (turns_of_told did) new
-  pub answers : AnswersEach messages did
+  pub answers : AnswersEach requests messages did

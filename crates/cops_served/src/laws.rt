@@ -17,17 +17,17 @@ ghost use Rattle.cops_served.specs.Conversations.{AreRecorded, IsConversationOf,
 use cops_node::Nodes;
 use cops_wire::Moments;
 
-/// Theorem: on a connection that `Connection::converse` served, the session's commands behave as defined. Their turns
-/// are the calls at the nodes, and their replies are the messages to the client.
+/// Theorem: on a connection that `Connection::converse` served, the session's commands behave as defined. They are the
+/// client's requests, their turns are the calls at the nodes, and their replies are the messages to the client.
 ///
 /// Memory may be refused at any place. `part` says the same of a connection that failed.
 pub fn conversations_behave<N: Nodes, M: Moments>()
     ensures whole { (config : Config) (remaining new_remaining contents new_contents : Option (List ℕ)) (nodes new_nodes : N) (moments new_moments : M) (ended : Ended) →
         (h : HasConversed (KeepsShape N.shape N.Answers) M.Gives config remaining new_remaining contents new_contents nodes new_nodes moments new_moments ended) →
-        IsConversationOf (KeepsShape N.shape N.Answers) (tenant_config config h.tenant) h.slot h.dc nodes new_nodes h.serves.replies }
+        IsConversationOf (KeepsShape N.shape N.Answers) (tenant_config config h.tenant) h.slot h.dc nodes new_nodes h.serves.requests h.serves.replies }
     ensures part { (config : Config) (remaining contents new_contents : Option (List ℕ)) (nodes new_nodes : N) (moments new_moments : M) →
         (h : ConversesInPart (KeepsShape N.shape N.Answers) M.Gives config remaining contents new_contents nodes new_nodes moments new_moments) →
-        IsConversationOf (KeepsShape N.shape N.Answers) (tenant_config config h.tenant) h.slot h.dc nodes new_nodes h.serves.replies }
+        IsConversationOf (KeepsShape N.shape N.Answers) (tenant_config config h.tenant) h.slot h.dc nodes new_nodes h.serves.requests h.serves.replies }
 {}
 
 /// Theorem: the steps of a carrier, from its first one, are commands that behave as defined, and their turns are
