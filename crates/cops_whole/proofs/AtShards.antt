@@ -31,6 +31,7 @@ use Rattle.cops_wire.proofs.NextCalls.{next_has}
 use Rattle.cops_history.specs.Turns.{Turn}
 use Rattle.cops_served.specs.Conversations.{MakesTurns, turns_of_told}
 use Rattle.cops_whole.specs.Seats.{IsAtShards, MakesAll, SlotActor}
+use Rattle.cops_whole.specs.Clients.{conversation_in, conversations_in}
 
 -- the call, at a shard that exists
 abbrev pub Within : {N : Type 0} → (N → NodeId → ℕ → ℕ → NodeCall → NodeReply → N → Type 0) → ℕ → N → NodeId → ℕ → ℕ → NodeCall → NodeReply → N → Type 0
@@ -185,6 +186,22 @@ module _ {N M : Type 0} (Calls : N → NodeId → ℕ → ℕ → NodeCall → N
     all_converse_there zero nodes new_nodes moments new_moments h = h
     all_converse_there (suc count) nodes new_nodes moments new_moments (between, middle, earlier, last) =
         (between, middle, all_converse_there count nodes between moments middle earlier, converses_there between new_nodes middle new_moments last)
+
+    -- the conversations are the same
+    same_here : (nodes new_nodes : N) (moments new_moments : M) (h : Converses Calls Gives config nodes new_nodes moments new_moments) →
+        conversation_in (Within Calls config.shards) Gives config nodes new_nodes moments new_moments (converses_there nodes new_nodes moments new_moments h) ≡ conversation_in Calls Gives config nodes new_nodes moments new_moments h
+    unfolding converses_there conversed_there in_part_there
+    same_here nodes new_nodes moments new_moments (inl (ended, h)) = refl
+    same_here nodes new_nodes moments new_moments (inr (inl none)) = refl
+    same_here nodes new_nodes moments new_moments (inr (inr h)) = refl
+
+    pub same_conversations : (count : ℕ) (nodes new_nodes : N) (moments new_moments : M) (h : ConverseAll Calls Gives config count nodes new_nodes moments new_moments) →
+        conversations_in (Within Calls config.shards) Gives config count nodes new_nodes moments new_moments (all_converse_there count nodes new_nodes moments new_moments h) ≡ conversations_in Calls Gives config count nodes new_nodes moments new_moments h
+    unfolding all_converse_there
+    same_conversations zero nodes new_nodes moments new_moments h = refl
+    same_conversations (suc count) nodes new_nodes moments new_moments (between, middle, earlier, last) =
+        ap (λ cs. cs ++ conversation_in (Within Calls config.shards) Gives config between new_nodes middle new_moments (converses_there between new_nodes middle new_moments last)) (same_conversations count nodes between moments middle earlier)
+        ∙ ap (λ cs. conversations_in Calls Gives config count nodes between moments middle earlier ++ cs) (same_here between new_nodes middle new_moments last)
 
 -- ---- carriers
 

@@ -1,5 +1,5 @@
 -- What the threads of a service do with their seats, as actors at shards that exist.
-use Rattle.std.proofs.Common.{◌≡◌, ℕ, ◌<◌, true, not, ◌==◌, ◌&&◌, nat_lt, ltb-true, arith}
+use Rattle.std.proofs.Common.{◌≡◌, ℕ, ◌<◌, true, not, ◌==◌, ◌&&◌, nat_lt, ltb-true, subst, arith}
 use Rattle.std.specs.Prelude.{Some, slice_get}
 use Rattle.cops_types.specs.declared.configs.Config.{Config}
 use Rattle.cops_types.specs.declared.configs.Tenant.{Tenant}
@@ -17,15 +17,23 @@ use Rattle.cops_service.specs.Conversing.{ConverseAll}
 use Rattle.cops_service.specs.Desks.{IsDeskCall, NodeSeat}
 use Rattle.cops_service.specs.Gates.{Gates}
 use Rattle.cops_whole.specs.Services.{IsCallAtShard}
+use Rattle.cops_whole.specs.Clients.{AreSessionsOf, conversations_in}
 use Rattle.cops_whole.specs.Threads.{AreCallsOfActors}
-use Rattle.cops_whole.proofs.AtShards.{all_converse_there, delivers_there}
-use Rattle.cops_whole.proofs.Threads.{collects, delivered, worked}
+use Rattle.cops_whole.proofs.AtShards.{all_converse_there, delivers_there, same_conversations}
+use Rattle.cops_whole.proofs.Threads.{collects, delivered, sessions_worked, worked}
 
 module _ (config : Config) (cluster : Gates Shared) where
   pub serves : {M : Type 0} (Gives : M → ℕ → M → Type 0) (count : ℕ) (first last : NodeSeat) (moments later : M) → 0 < config.shards → ConverseAll (IsDeskCall cluster) Gives config count first last moments later →
       AreCallsOfActors (IsCallAtShard config cluster) config first last
   serves Gives count first last moments later some h =
       worked (IsCallAtShard config cluster) Gives config count first last moments later (all_converse_there (IsDeskCall cluster) Gives config some count first last moments later h)
+
+  pub sessions_served : {M : Type 0} (Gives : M → ℕ → M → Type 0) (count : ℕ) (first last : NodeSeat) (moments later : M) (some : 0 < config.shards) (h : ConverseAll (IsDeskCall cluster) Gives config count first last moments later) →
+      AreSessionsOf (conversations_in (IsDeskCall cluster) Gives config count first last moments later h) (serves Gives count first last moments later some h).actors
+  unfolding serves
+  sessions_served Gives count first last moments later some h =
+      subst (λ cs. AreSessionsOf cs (serves Gives count first last moments later some h).actors) (same_conversations (IsDeskCall cluster) Gives config some count first last moments later h)
+      (sessions_worked (IsCallAtShard config cluster) Gives config count first last moments later (all_converse_there (IsDeskCall cluster) Gives config some count first last moments later h))
 
   -- a stream begins at a shard that exists
   begins_there : (tenant : Tenant) (stream : Stream) → has_stream (tenant_config config tenant) stream.origin.dc stream.origin.shard stream.to_dc ≡ true → stream.origin.shard < config.shards

@@ -1,5 +1,5 @@
 -- The seats that the threads of a service gave back did the calls of actors.
-use Rattle.std.proofs.Common.{◌≡◌, ◌≢◌, ℕ, zero, suc, ◌*◌, ◌<◌, true, false, not, ◌==◌, ◌&&◌, nat_lt, List, [], ◌∷◌, map, length, inl, inr, get_or, lt-ltb, refl, sym, ◌∙◌, ap, subst, arith}
+use Rattle.std.proofs.Common.{◌≡◌, ◌≢◌, ℕ, zero, suc, ◌*◌, ◌<◌, true, false, not, cond, ◌==◌, ◌&&◌, nat_lt, List, [], ◌∷◌, map, length, inl, inr, get_or, lt-ltb, ◌++◌, append_assoc, refl, sym, ◌∙◌, ap, subst, arith}
 use Rattle.std.specs.Prelude.{Some, slice_get}
 use Rattle.std.specs.List.{AllByRecursion}
 use Rattle.std.proofs.lemmas.Bool.Decides.{Decides-eqb}
@@ -12,10 +12,10 @@ use Rattle.cops_types.specs.TenantConfig.{tenant_config}
 use Rattle.cops_types.proofs.Elements.{and_true}
 use Rattle.cops_gate.specs.History.{IsLegal, Leads, turns_at}
 use Rattle.cops_gate.specs.declared.history.Turn.{Turn}
-use Rattle.cops_gate.specs.Rule.{Met}
+use Rattle.cops_gate.specs.Rule.{AreDistinctNumbers, Met}
 use Rattle.cops_gate.specs.Seats.{AreMadeBy, HasAllOf, all_spent}
 use Rattle.cops_gate.proofs.Accounts.{met_left, met_right}
-use Rattle.cops_gate.proofs.Ending.{all_joined, all_weaker}
+use Rattle.cops_gate.proofs.Ending.{all_weaker}
 use Rattle.cops_gate.proofs.Keeps.{there_at}
 use Rattle.cops_model.specs.Cluster.{has_node, has_stream}
 use Rattle.cops_model.specs.Place.{node_number}
@@ -36,10 +36,11 @@ use Rattle.cops_served.specs.Conversations.{MakesTurns, turns_of_told}
 use Rattle.cops_whole.specs.Seats.{MakesAll, SlotActor}
 use Rattle.cops_whole.specs.ServedBy.{AreServedByActors, HasTicketsLeft, ServesAllCausally}
 use Rattle.cops_whole.specs.Services.{IsCallAtShard, IsCrewRun, IsNumbered, IsTurnAtShard, SeatActors, SeatDid, actors_numbered, past_numbers}
+use Rattle.cops_whole.specs.Clients.{AnswerClients, AreSessionsOf, conversations_by}
 use Rattle.cops_whole.specs.Threads.{AreCallsOfActors}
 use Rattle.cops_whole.proofs.Crews.{run_of_crew}
 use Rattle.cops_whole.proofs.Histories.{how_many, opened_at}
-use Rattle.cops_whole.proofs.SeatThreads.{carries, collected, serves}
+use Rattle.cops_whole.proofs.SeatThreads.{carries, collected, serves, sessions_served}
 use Rattle.cops_whole.proofs.Services.{tenants_of_service}
 use Rattle.cops_whole.proofs.Threads.{both, none}
 
@@ -199,27 +200,88 @@ all_numbered : (crew : List SeatActors) (history : NodeLog) → AreMadeBy (map (
 all_numbered crew history made =
     all_weaker (λ (t : Turn NodeCall NodeReply). Met t.seat (map (λ (s : SeatActors). s.number) crew)) (λ (t : Turn NodeCall NodeReply). IsNumbered crew t.seat) history (λ t met. is_numbered crew t.seat met) made
 
+-- ---- seats by number
+
+-- others have another number
+others_known : (s : SeatActors) (actors : ℕ → List SlotActor) (crew : List SeatActors) → (Met s.number (map (λ (t : SeatActors). t.number) crew) → ⊥) → AllByRecursion (λ (t : SeatActors). actors t.number ≡ t.actors) crew →
+    AllByRecursion (λ (t : SeatActors). cond (s.number == t.number) s.actors (actors t.number) ≡ t.actors) crew
+others_known s actors [] never all = tt
+others_known s actors (t ∷ crew) never all = (
+  elim (s.number == t.number) as (λ b. (s.number == t.number) ≡ b → cond b s.actors (actors t.number) ≡ t.actors) [
+    | true ↦ λ is. absurd (never (inl ((Decides-eqb s.number t.number).0 is)))
+    | false ↦ λ apart. all.0
+  ] refl,
+  others_known s actors crew (λ met. never (inr met)) all.1,
+)
+
+by_own_number : (crew : List SeatActors) → AreDistinctNumbers (map (λ (s : SeatActors). s.number) crew) → AllByRecursion (λ (s : SeatActors). actors_numbered crew s.number ≡ s.actors) crew
+by_own_number [] apart = tt
+by_own_number (s ∷ crew) apart = (
+  ap (λ b. cond b s.actors (actors_numbered crew s.number)) ((Decides-eqb s.number s.number).1 refl),
+  others_known s (actors_numbered crew) crew apart.0 (by_own_number crew apart.1),
+)
+
 -- ---- the service
 
 module _ {M : Type 0} (Gives : M → ℕ → M → Type 0) (moments : M) (config : Config) (workers : ℕ) (nodes : List Shared) (some_shards : 0 < config.shards) (served : AreServedBy Gives moments config workers nodes) where
   abbrev cluster : Gates Shared
   cluster = served.cluster
 
-  abbrev seats : List NodeSeat
-  seats = served.seen.seats
+  abbrev workers_seats : List NodeSeat
+  workers_seats = served.seen.crew.serve.workers
 
-  all_acted : AllByRecursion (Acted config cluster) seats
-  all_acted =
+  -- those of the carrier and the collector
+  abbrev others : List NodeSeat
+  others = served.seen.crew.serve.carrier ∷ (served.seen.crew.collector ∷ [])
+
+  abbrev seats : List NodeSeat
+  seats = workers_seats ++ others
+
+  seats_are : served.seen.seats ≡ seats
+  seats_are =
       let crew = served.seen.crew in
-      let servers = crew.serve in
-      let by_workers : AllByRecursion (Acted config cluster) servers.workers =
-      all_weaker (HasJustDone cluster (ServesClients config cluster Gives moments)) (Acted config cluster) servers.workers
-      (acted config cluster (ServesClients config cluster Gives moments) (λ first last h. serves config cluster Gives h.0 first last moments h.1 some_shards h.2)) servers.serve.1 in
-      let by_carrier : Acted config cluster servers.carrier = acted config cluster (CarriesStreams config cluster) (λ first last h. all_carried config cluster h.0 first last h.1) servers.carrier servers.carries in
-      let by_collector : Acted config cluster crew.collector = acted config cluster (CollectsPlaces config cluster) (λ first last h. all_collected config cluster h.0 first last h.1) crew.collector crew.collects in
-      let by_servers : AllByRecursion (Acted config cluster) crew.servers =
-      subst (AllByRecursion (Acted config cluster)) (sym servers.are) (all_joined (Acted config cluster) servers.workers (servers.carrier ∷ []) by_workers (by_carrier, tt)) in
-      subst (AllByRecursion (Acted config cluster)) (sym crew.are) (all_joined (Acted config cluster) crew.servers (crew.collector ∷ []) by_servers (by_collector, tt))
+      crew.are ∙ ap (λ s. s ++ crew.collector ∷ []) crew.serve.are ∙ append_assoc workers_seats (crew.serve.carrier ∷ []) (crew.collector ∷ [])
+
+  abbrev DidServe : NodeSeat → Type 0
+  DidServe = HasJustDone cluster (ServesClients config cluster Gives moments)
+
+  by_worker : (seat : NodeSeat) → DidServe seat → Acted config cluster seat
+  by_worker = acted config cluster (ServesClients config cluster Gives moments) (λ first last h. serves config cluster Gives h.0 first last moments h.1 some_shards h.2)
+
+  -- workers, and others behind them
+  abbrev with_workers : (these rest : List NodeSeat) → AllByRecursion DidServe these → AllByRecursion (Acted config cluster) rest → AllByRecursion (Acted config cluster) (these ++ rest)
+  with_workers [] rest all more = more
+  with_workers (s ∷ these) rest all more = (by_worker s all.0, with_workers these rest all.1 more)
+
+  acted_others : AllByRecursion (Acted config cluster) others
+  acted_others =
+      let crew = served.seen.crew in (
+        acted config cluster (CarriesStreams config cluster) (λ first last h. all_carried config cluster h.0 first last h.1) crew.serve.carrier crew.serve.carries,
+        (acted config cluster (CollectsPlaces config cluster) (λ first last h. all_collected config cluster h.0 first last h.1) crew.collector crew.collects, tt),
+      )
+
+  abbrev all_acted : AllByRecursion (Acted config cluster) seats
+  all_acted = with_workers workers_seats others served.seen.crew.serve.serve.1 acted_others
+
+  -- the actors of workers are the sessions of their conversations. The crew begins with these workers
+  abbrev AnswerFirst : (these : List NodeSeat) → AllByRecursion DidServe these → List SeatActors → Type 0
+  AnswerFirst [] all crew = Unit {0}
+  AnswerFirst (seat ∷ these) all [] = ⊥
+  AnswerFirst (seat ∷ these) all (s ∷ crew) = (s.number ≡ seat.number) × AreSessionsOf (conversations_by Gives moments config cluster seat all.0) s.actors × AnswerFirst these all.1 crew
+
+  answer_first : (these rest : List NodeSeat) (all : AllByRecursion DidServe these) (more : AllByRecursion (Acted config cluster) rest) → AnswerFirst these all (crew_of config cluster (these ++ rest) (with_workers these rest all more))
+  unfolding by_worker acted
+  answer_first [] rest all more = tt
+  answer_first (s ∷ these) rest all more = (refl, sessions_served config cluster Gives all.0.does.0 all.0.first s moments all.0.does.1 some_shards all.0.does.2, answer_first these rest all.1 more)
+
+  answer_by_number : (actors : ℕ → List SlotActor) (these : List NodeSeat) (all : AllByRecursion DidServe these) (crew : List SeatActors) → AnswerFirst these all crew → AllByRecursion (λ (s : SeatActors). actors s.number ≡ s.actors) crew →
+      AnswerClients Gives moments config cluster actors these all
+  answer_by_number actors [] all crew first known = tt
+  answer_by_number actors (seat ∷ these) all [] first known = absurd first
+  answer_by_number actors (seat ∷ these) all (s ∷ crew) first known = (
+    subst (AreSessionsOf (conversations_by Gives moments config cluster seat all.0)) (sym known.0 ∙ ap actors first.0) first.1,
+    answer_by_number actors these all.1 crew first.2 known.1,
+  )
 
   abbrev all_crew : List SeatActors
   all_crew = crew_of config cluster seats all_acted
@@ -238,13 +300,18 @@ module _ {M : Type 0} (Gives : M → ℕ → M → Type 0) (moments : M) (config
   legal_there number within = let node = there_at nodes number (subst (λ n. number < n) (sym node_count) within) in (node.0, left_there number node.0 within node.1)
 
   none_met : HasTicketsLeft history → AllByRecursion (HasMetNone config cluster) seats
-  none_met few = met_none seats (λ node met. let below = few node in let full = served.exhausted node (subst (Met node) (sym served.seen.spent) met) in omega (arith, below, full))
+  none_met few =
+      subst (AllByRecursion (HasMetNone config cluster)) seats_are
+      (met_none served.seen.seats (λ node met. let below = few node in let full = served.exhausted node (subst (Met node) (sym served.seen.spent) met) in omega (arith, below, full)))
+
+  numbers_there : map (λ (s : SeatActors). s.number) all_crew ≡ map (λ (s : NodeSeat). s.number) served.seen.seats
+  numbers_there = numbers_are config cluster seats all_acted ∙ ap (map (λ (s : NodeSeat). s.number)) (sym seats_are)
 
   run : HasTicketsLeft history → IsCrewRun config cluster history all_crew
   run few = record {
     gate = record { shards = served.shards; opened = served.opened; legal = legal_there };
-    did = all_did config cluster history seats all_acted (subst (λ h. AllByRecursion (HasAllOf h) seats) (sym served.whole) served.seen.all) (none_met few);
-    seated = all_numbered all_crew history (subst (λ numbers. AreMadeBy numbers history) (sym (numbers_are config cluster seats all_acted)) served.made);
+    did = all_did config cluster history seats all_acted (subst (AllByRecursion (HasAllOf history)) seats_are (subst (λ h. AllByRecursion (HasAllOf h) served.seen.seats) (sym served.whole) served.seen.all)) (none_met few);
+    seated = all_numbered all_crew history (subst (λ numbers. AreMadeBy numbers history) (sym numbers_there) served.made);
   }
 
   causally : HasTicketsLeft history → ServesAllCausally config history nodes all_crew
@@ -261,4 +328,10 @@ module _ {M : Type 0} (Gives : M → ℕ → M → Type 0) (moments : M) (config
       }
 
   pub served_by_actors : AreServedByActors Gives moments config workers nodes served
-  served_by_actors = record { crew = all_crew; numbers = numbers_are config cluster seats all_acted; causally = causally }
+  served_by_actors = record {
+    crew = all_crew;
+    numbers = numbers_there;
+    sessions = answer_by_number (actors_numbered all_crew) workers_seats served.seen.crew.serve.serve.1 all_crew (answer_first workers_seats others served.seen.crew.serve.serve.1 acted_others)
+        (by_own_number all_crew (subst AreDistinctNumbers (sym numbers_there) served.apart));
+    causally = causally;
+  }

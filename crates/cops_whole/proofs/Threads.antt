@@ -1,6 +1,6 @@
 -- What the threads of a service do, as actors.
 use Rattle.std.proofs.Common.{◌≡◌, ℕ, zero, suc, true, List, [], ◌∷◌, ◌++◌, max, inl, inr, refl, ap, subst}
-use Rattle.std.specs.Prelude.{Some, slice_get}
+use Rattle.std.specs.Prelude.{Some, None, slice_get}
 use Rattle.cops_types.specs.declared.configs.Config.{Config}
 use Rattle.cops_types.specs.declared.configs.Tenant.{Tenant}
 use Rattle.cops_types.specs.TenantConfig.{TenantConfig, tenant_config}
@@ -17,12 +17,15 @@ use Rattle.cops_model.specs.Cluster.{has_stream}
 use Rattle.cops_model.specs.Log.{Call, Directed, LogStep, Replied}
 use Rattle.cops_service.specs.Carried.{Delivers, TakesSteps}
 use Rattle.cops_service.specs.Conversing.{ConverseAll, Converses}
+use Rattle.cops_wire.specs.Conversation.{ConversesInPart, HasConversed}
 use Rattle.cops_wire.specs.declared.messages.Message.{Message}
+use Rattle.cops_wire.specs.declared.serving.Ended.{Ended}
 use Rattle.cops_history.specs.Commands.{Begins, Opens}
 use Rattle.cops_served.specs.Conversations.{IsConversationOf, MakesTurns, turns_of_told}
 use Rattle.cops_served.proofs.Sessions.{conversation, greeted_there}
 use Rattle.cops_served.proofs.Streams.{CarriedFrom, begun, collected, steps_last, steps_on}
 use Rattle.cops_whole.specs.Seats.{BehavesInSlot, MakesAll, SlotActor}
+use Rattle.cops_whole.specs.Clients.{AreSessionsOf, Conversation, conversation_in, conversations_in}
 use Rattle.cops_whole.specs.Threads.{AreCallsOfActors}
 
 -- ---- lists of actors
@@ -47,23 +50,56 @@ module _ {N : Type 0} (Calls : N → NodeId → ℕ → ℕ → NodeCall → Nod
 
 -- ---- workers
 
+sessions_both : (earlier : List Conversation) (actors : List SlotActor) (later : List Conversation) (others : List SlotActor) → AreSessionsOf earlier actors → AreSessionsOf later others → AreSessionsOf (earlier ++ later) (actors ++ others)
+sessions_both [] [] later others first second = second
+sessions_both [] (a ∷ actors) later others first second = absurd first
+sessions_both (c ∷ earlier) [] later others first second = absurd first
+sessions_both (c ∷ earlier) (a ∷ actors) later others first second = (first.0, sessions_both earlier actors later others first.1 second)
+
 module _ {N M : Type 0} (Calls : N → NodeId → ℕ → ℕ → NodeCall → NodeReply → N → Type 0) (Gives : M → ℕ → M → Type 0) (config : Config) where
-  of_conversation : (slot dc : ℕ) (tenant : Tenant) (old new : N) (messages : List Message) → slice_get config.tenants slot ≡ Some tenant → IsConversationOf Calls (tenant_config config tenant) slot dc old new messages → AreCallsOfActors Calls config old new
-  of_conversation slot dc tenant old new messages found c = one Calls config (record { slot = slot; did = record { command = Opens dc; reply = reply.Opened } ∷ c.did }) old new (tenant, found, c.behaves) c.made
+  of_conversation : (slot dc : ℕ) (tenant : Tenant) (old new : N) (requests messages : List Message) → slice_get config.tenants slot ≡ Some tenant → IsConversationOf Calls (tenant_config config tenant) slot dc old new requests messages → AreCallsOfActors Calls config old new
+  of_conversation slot dc tenant old new requests messages found c = one Calls config (record { slot = slot; did = record { command = Opens dc; reply = reply.Opened } ∷ c.did }) old new (tenant, found, c.behaves) c.made
+
+  -- the session of a conversation to the end, and of one in part
+  by_whole : (old new : N) (moments new_moments : M) (ended : Ended) (h : HasConversed Calls Gives config None None None None old new moments new_moments ended) → IsConversationOf Calls (tenant_config config h.tenant) h.slot h.dc old new h.serves.requests h.serves.replies
+  by_whole old new moments new_moments ended h =
+      conversation Calls Gives (tenant_config config h.tenant) h.slot h.dc h.serves.requests h.serves.replies old new moments new_moments h.after (greeted_there config.tenants config.data_centres (slice_get h.greets.messages 0) h.slot h.dc h.greets.answer_is) h.serves.served
+
+  by_part : (old new : N) (moments new_moments : M) (h : ConversesInPart Calls Gives config None None None old new moments new_moments) → IsConversationOf Calls (tenant_config config h.tenant) h.slot h.dc old new h.serves.requests h.serves.replies
+  by_part old new moments new_moments h =
+      conversation Calls Gives (tenant_config config h.tenant) h.slot h.dc h.serves.requests h.serves.replies old new moments new_moments h.after (greeted_there config.tenants config.data_centres (slice_get h.greets.messages 0) h.slot h.dc h.greets.answer_is) h.serves.served
 
   converses : (old new : N) (moments new_moments : M) → Converses Calls Gives config old new moments new_moments → AreCallsOfActors Calls config old new
-  converses old new moments new_moments (inl (ended, h)) =
-      of_conversation h.slot h.dc h.tenant old new h.serves.replies h.tenant_is
-      (conversation Calls Gives (tenant_config config h.tenant) h.slot h.dc h.serves.requests h.serves.replies old new moments new_moments h.after (greeted_there config.tenants config.data_centres (slice_get h.greets.messages 0) h.slot h.dc h.greets.answer_is) h.serves.served)
+  converses old new moments new_moments (inl (ended, h)) = of_conversation h.slot h.dc h.tenant old new h.serves.requests h.serves.replies h.tenant_is (by_whole old new moments new_moments ended h)
   converses old new moments new_moments (inr (inl (greeted, same, same_moments))) = none Calls config old new same
-  converses old new moments new_moments (inr (inr h)) =
-      of_conversation h.slot h.dc h.tenant old new h.serves.replies h.tenant_is
-      (conversation Calls Gives (tenant_config config h.tenant) h.slot h.dc h.serves.requests h.serves.replies old new moments new_moments h.after (greeted_there config.tenants config.data_centres (slice_get h.greets.messages 0) h.slot h.dc h.greets.answer_is) h.serves.served)
+  converses old new moments new_moments (inr (inr h)) = of_conversation h.slot h.dc h.tenant old new h.serves.requests h.serves.replies h.tenant_is (by_part old new moments new_moments h)
 
   pub worked : (count : ℕ) (old new : N) (moments new_moments : M) → ConverseAll Calls Gives config count old new moments new_moments → AreCallsOfActors Calls config old new
   worked zero old new moments new_moments (same, same_moments) = none Calls config old new same
   worked (suc count) old new moments new_moments (between, middle, earlier, last) =
       both Calls config old between new (worked count old between moments middle earlier) (converses between new middle new_moments last)
+
+  -- ---- the actors of workers are sessions
+
+  session : (slot dc : ℕ) (tenant : Tenant) (old new : N) (requests messages : List Message) (found : slice_get config.tenants slot ≡ Some tenant) (c : IsConversationOf Calls (tenant_config config tenant) slot dc old new requests messages) →
+      AreSessionsOf (record { slot = slot; dc = dc; requests = requests; replies = messages } ∷ []) (of_conversation slot dc tenant old new requests messages found c).actors
+  unfolding of_conversation one
+  session slot dc tenant old new requests messages found c = (record { slot = refl; did = c.did; opened = refl; answers = c.answers }, tt)
+
+  sessions_here : (old new : N) (moments new_moments : M) (h : Converses Calls Gives config old new moments new_moments) → AreSessionsOf (conversation_in Calls Gives config old new moments new_moments h) (converses old new moments new_moments h).actors
+  unfolding converses none
+  sessions_here old new moments new_moments (inl (ended, h)) = session h.slot h.dc h.tenant old new h.serves.requests h.serves.replies h.tenant_is (by_whole old new moments new_moments ended h)
+  sessions_here old new moments new_moments (inr (inl (greeted, same, same_moments))) = tt
+  sessions_here old new moments new_moments (inr (inr h)) = session h.slot h.dc h.tenant old new h.serves.requests h.serves.replies h.tenant_is (by_part old new moments new_moments h)
+
+  pub sessions_worked : (count : ℕ) (old new : N) (moments new_moments : M) (h : ConverseAll Calls Gives config count old new moments new_moments) →
+      AreSessionsOf (conversations_in Calls Gives config count old new moments new_moments h) (worked count old new moments new_moments h).actors
+  unfolding worked none both
+  sessions_worked zero old new moments new_moments (same, same_moments) = tt
+  sessions_worked (suc count) old new moments new_moments (between, middle, earlier, last) =
+      sessions_both (conversations_in Calls Gives config count old between moments middle earlier) (worked count old between moments middle earlier).actors
+      (conversation_in Calls Gives config between new middle new_moments last) (converses between new middle new_moments last).actors
+      (sessions_worked count old between moments middle earlier) (sessions_here between new middle new_moments last)
 
 -- ---- carriers
 

@@ -5,4 +5,5 @@ pub mod Threads
 pub mod NoOps
 pub mod Services
 pub mod SmallService
+pub mod Clients
 pub mod ServedBy

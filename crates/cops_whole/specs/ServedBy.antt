@@ -10,6 +10,7 @@ use Rattle.cops_service.specs.Desks.{NodeSeat}
 use Rattle.cops_service.specs.Slots.{NodeLog}
 use Rattle.cops_history.specs.Turns.{node_numbered}
 use Rattle.cops_whole.specs.Services.{IsLogOfService, IsTenantOfService, SeatActors, actors_numbered, past_numbers}
+use Rattle.cops_whole.specs.Clients.{AnswerClients}
 use Rattle.cops_whole.specs.Whole.{WholeTurn, Represents, place_there}
 
 -- fewer than 2^62 turns were made at each node
@@ -24,8 +25,10 @@ pub record ServesAllCausally (config : Config) (history : NodeLog) (nodes : List
   pub left : (slot : ℕ) (tenant : Tenant) (found : slice_get config.tenants slot ≡ Some tenant) (number : ℕ) (node : Shared) → slice_get nodes number ≡ Some node →
       Represents slot (place_there config tenant number) (node_numbered (tenant_config config tenant) number (tenants slot tenant found).acts.run.left.nodes) node
 
--- The calls of the threads' seats are those of these actors, who behave. If no node ran out of tickets, all tenants were served causally.
+-- The calls of the threads' seats are those of these actors, who behave. Those of a worker are the sessions of its clients' conversations, with the replies
+-- that the clients got. If no node ran out of tickets, all tenants were served causally.
 pub record AreServedByActors {M : Type 0} (Gives : M → ℕ → M → Type 0) (moments : M) (config : Config) (workers : ℕ) (nodes : List Shared) (served : AreServedBy Gives moments config workers nodes) : Type 0 where
   pub crew : List SeatActors
   pub numbers : map (λ (s : SeatActors). s.number) crew ≡ map (λ (s : NodeSeat). s.number) served.seen.seats
+  pub sessions : AnswerClients Gives moments config served.cluster (actors_numbered crew) served.seen.crew.serve.workers served.seen.crew.serve.serve.1
   pub causally : HasTicketsLeft served.log → ServesAllCausally config served.log nodes crew

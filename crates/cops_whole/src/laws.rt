@@ -156,8 +156,10 @@ pub fn small_service_ran()
     ensures lacking { (gate : Origin Shared) → IsServiceRun small_config (small_gates gate) lacking_history 2 lacking_actors }
 {}
 
-/// Theorem: the calls of the seats that a service's threads gave back are those of actors. If fewer than 2^62 turns were made
-/// at each node, one log serves all tenants causally, and the nodes that are left represent what their acts leave.
+/// Theorem: the calls of the seats that a service's threads gave back are those of actors. Those of a worker are the sessions of
+/// its clients' conversations: their commands are the clients' requests, their replies those that the clients got. If fewer than
+/// 2^62 turns were made at each node, one log serves all tenants causally, and the nodes that are left represent what their
+/// acts leave.
 pub fn threads_serve_causally<M: Moments>()
     ensures { (config : Config) (workers : ℕ) (moments : M) (nodes : List Shared) (served : AreServedBy M.Gives moments config workers nodes) → 0 < config.shards →
         AreServedByActors M.Gives moments config workers nodes served }
