@@ -1,11 +1,15 @@
 //! A client's connection, from its greeting to its end.
-ghost use Rattle.std.specs.Prelude.{◌≡◌, IsTrue, IfOk, OnErr};
+ghost use Rattle.std.specs.Prelude.{◌≡◌, ◌⊎◌, ◌^◌, ⊤, List, IsTrue, Err, IfErr, IfOk, OnErr};
 ghost use Rattle.cops_types.specs.HeadLines.{are_sizes};
-ghost use Rattle.cops_types.specs.Sink.{sink_writer};
-ghost use Rattle.cops_types.specs.Source.{source_reader};
+ghost use Rattle.cops_types.specs.Counts.{HasRisen};
+ghost use Rattle.cops_types.specs.Sink.{sink_failures, sink_writer};
+ghost use Rattle.cops_types.specs.Source.{source_failures, source_reader, source_reads};
 ghost use Rattle.cops_node.specs.Clusters.{shape_of};
 ghost use Rattle.cops_wire.specs.Conversation.{HasConversed, HasConversedInPart};
+ghost use Rattle.cops_wire.specs.Decoding.{KeptBytes};
+ghost use Rattle.cops_wire.specs.Greeting.{Greets, HasRisenByOrMore, IsStopped};
 ghost use Rattle.cops_wire.specs.Requests.{KeepsShape};
+ghost use Rattle.cops_wire.specs.declared.messages.Message.{Message};
 ghost use Rattle.cops_service.specs.Conversing.{Converses};
 
 use crate::lines::{Incoming, Line, Outgoing};
@@ -43,6 +47,17 @@ pub(crate) fn serve_client<R: Read + Drop, O: Write + Drop, N: Nodes, M: Moments
         (R.remaining (source_reader source))
         (O.contents (sink_writer sink)) (O.contents (sink_writer result.sink))
         nodes.old nodes.new moments.old moments.new) }
+
+    // The error is that of a greeting, whose refusal is written, or says what stopped the conversation.
+    ensures err { IfErr result.ended (λ error. ((kept : KeptBytes) × (waiting : List Message) ×
+        Greets config.now.tenants config.now.data_centres
+        (R.remaining (source_reader source)) (R.remaining (source_reader result.source))
+        (O.contents (sink_writer sink)) (O.contents (sink_writer result.sink))
+        kept waiting (Err error))
+        ⊎ IsStopped error ⊤
+        (HasRisen (source_failures source) (source_failures result.source)
+        ⊎ HasRisenByOrMore (source_reads source) (source_reads result.source) (2 ^ 32))
+        (HasRisen (sink_failures sink) (sink_failures result.sink))) }
     ensures shape { N.shape nodes.new ≡ N.shape nodes.old }
 {
     let mut connection = Connection::new(alloc, source, sink);
