@@ -1,4 +1,6 @@
 //! A service's reports to its operator.
+ghost use Rattle.cops_service.specs.Ends.{IsCause, IsCauseOf};
+
 use cops_types::{Fault, RequestError};
 use cops_wire::Ended;
 use std::net::SocketAddr;
@@ -47,7 +49,9 @@ pub(crate) struct Course {
 }
 
 /// Returns why a connection ended, unless it ended cleanly.
-pub(crate) fn cause_of(ended: &Result<Ended, RequestError>, course: Course) -> Option<Cause> {
+pub(crate) fn cause_of(ended: &Result<Ended, RequestError>, course: Course) -> Option<Cause>
+    ensures { IsCause course ended.now result }
+{
     match ended {
         Ok(Ended::Clean) => None,
         Ok(Ended::Torn) if course.saw_end => Some(Cause::CutOff),
@@ -58,7 +62,9 @@ pub(crate) fn cause_of(ended: &Result<Ended, RequestError>, course: Course) -> O
 }
 
 /// Returns why a connection ended with this fault.
-fn cause_of_fault(fault: Fault, course: Course) -> Cause {
+fn cause_of_fault(fault: Fault, course: Course) -> Cause
+    ensures { IsCauseOf course fault result }
+{
     match fault {
         Fault::ReadFault | Fault::WriteFault if course.is_idle => Cause::Idle,
         Fault::ReadFault => Cause::ReadingFailed,

@@ -1,4 +1,6 @@
 //! Counts of frames.
+ghost use Rattle.std.specs.Prelude.{◌≡◌, ◌<◌, false, length};
+ghost use Rattle.cops_service.specs.Tallies.{after, counted, seen};
 
 /// The tag of a refusal.
 const REFUSED: u8 = 0xff;
@@ -17,7 +19,16 @@ pub(crate) struct Tally {
 }
 
 impl Tally {
-    pub(crate) fn new() -> Tally {
+    pub(crate) fn new() -> Tally
+        ensures { result ≡ record {
+          frames = 0;
+          refusals = 0;
+          head = 0;
+          length = 0;
+          left = 0;
+          is_tag = false;
+        } }
+    {
         Tally {
             frames: 0,
             refusals: 0,
@@ -29,7 +40,9 @@ impl Tally {
     }
 
     /// Counts bytes that pass.
-    pub(crate) fn count(&mut self, bytes: &[u8]) {
+    pub(crate) fn count(&mut self, bytes: &[u8])
+        ensures { self.new ≡ after self.old bytes.now }
+    {
         let mut rest = bytes;
         for _ in 0..bytes.len() {
             if rest.is_empty() {
@@ -40,27 +53,29 @@ impl Tally {
     }
 
     // Passes a byte of a length, or the present part of a body. Returns the bytes after it.
-    fn step<'b>(&mut self, bytes: &'b [u8]) -> &'b [u8] {
-        let Some(first) = bytes.first() else {
+    fn step<'b>(&mut self, bytes: &'b [u8]) -> &'b [u8]
+        ensures bytes { after self.new result.now ≡ after self.old bytes.now }
+        ensures less { 0 < length bytes.now → length result.now < length bytes.now }
+    {
+        if bytes.is_empty() {
             return bytes;
-        };
+        }
+        let first = bytes[0];
         if self.left == 0 {
-            self.take_length(*first);
+            self.take_length(first);
             return &bytes[1..];
         }
-        if self.is_tag {
-            self.take_tag(*first);
-        }
+        self.take_first(first);
         let skipped = (self.left as usize).min(bytes.len());
-        self.left = self
-            .left
-            .saturating_sub(u32::try_from(skipped).unwrap_or(u32::MAX));
+        self.left -= skipped as u32;
         &bytes[skipped..]
     }
 
     // Passes a byte of a length.
-    fn take_length(&mut self, byte: u8) {
-        self.length = self.length.wrapping_shl(8) | u32::from(byte);
+    fn take_length(&mut self, byte: u8)
+        ensures { self.new ≡ counted byte self.old }
+    {
+        self.length = self.length.wrapping_mul(256).wrapping_add(u32::from(byte));
         self.head = self.head.wrapping_add(1);
         if self.head == 4 {
             self.left = self.length;
@@ -70,11 +85,16 @@ impl Tally {
         }
     }
 
-    // Passes the first byte of a body.
-    fn take_tag(&mut self, tag: u8) {
+    // Passes a byte of a body, but for counting it as passed.
+    fn take_first(&mut self, byte: u8)
+        ensures { self.new ≡ seen byte self.old }
+    {
+        if !self.is_tag {
+            return;
+        }
         self.is_tag = false;
         self.frames = self.frames.saturating_add(1);
-        if tag == REFUSED {
+        if byte == REFUSED {
             self.refusals = self.refusals.saturating_add(1);
         }
     }
