@@ -1,4 +1,7 @@
 //! When each tenant's part of a node is due for garbage collection.
+ghost use Rattle.std.specs.Prelude.{◌≡◌, ◌≢◌, ◌+◌, ◌-◌, ◌*◌, ◌<◌, ◌≤◌, ◌↔◌, ◌⊎◌, None, false, true, min, IsSomeAnd, IsTrue};
+ghost use Rattle.std.specs.Duration.{as_nanos};
+
 use crate::notes::{Noted, Notes, Sizes, TenantNode, Visit};
 use cops_types::Config;
 use std::alloc::{AllocError, Global};
@@ -36,6 +39,88 @@ struct Due {
     latest: u64,
 }
 
+impl Due {
+    // Returns a place of this life that isn't due.
+    fn none(life: u64) -> Due
+        ensures { result ≡ record {
+          is_kept = false;
+          life = life;
+          is_asked = false;
+          at = NEVER;
+          latest = 0;
+        } }
+    {
+        Due {
+            is_kept: false,
+            life,
+            is_asked: false,
+            at: NEVER,
+            latest: 0,
+        }
+    }
+
+    // Returns the same place to be collected at once.
+    fn asked(self) -> Due
+        ensures { result ≡ record self { is_asked = true } }
+    {
+        Due {
+            is_asked: true,
+            ..self
+        }
+    }
+
+    // Returns the same place after a version came at this time.
+    fn grown(self, now: u64, trans_time: u64) -> Due
+        ensures { result ≡ record self {
+          latest = now;
+          at = min self.at (min (now + trans_time + 1) NEVER);
+        } }
+    {
+        Due {
+            latest: now,
+            at: self.at.min(due_after(now, trans_time)),
+            ..self
+        }
+    }
+
+    // Returns the same place after a collection at this time.
+    fn collected(self, time: u64, came: Collected, trans_time: u64) -> Due
+        ensures later { time < self.at → result ≡ record self { is_asked = false } }
+        ensures refused { self.at ≤ time → came ≡ Collected.Refused →
+            result ≡ record self { is_asked = false; at = min (time + AGAIN) NEVER } }
+        ensures covered { self.at ≤ time → came ≢ Collected.Refused →
+            min (self.latest + trans_time + 1) NEVER ≤ time →
+            result ≡ record self { is_asked = false; at = NEVER } }
+        ensures grown { self.at ≤ time → came ≢ Collected.Refused →
+            time < min (self.latest + trans_time + 1) NEVER →
+            result ≡ record self {
+              is_asked = false;
+              at = min (self.latest + trans_time + 1) NEVER;
+            } }
+    {
+        let at = if self.at > time {
+            self.at
+        } else {
+            match came {
+                Collected::Refused => time.saturating_add(AGAIN),
+                Collected::Removed(_) => due_again(self.latest, trans_time, time),
+            }
+        };
+        Due {
+            is_asked: false,
+            at,
+            ..self
+        }
+    }
+
+    // Returns `true` if the place is due or to be collected at once.
+    fn is_ready(&self, now: u64) -> bool
+        ensures { IsTrue result ↔ IsTrue self.now.is_asked ⊎ (self.now.at ≤ now) }
+    {
+        self.is_asked || self.at <= now
+    }
+}
+
 /// The places where a version may be stale, each with the time from which a collection removes it.
 ///
 /// A collection covers each version that became stale longer ago than the transaction time. No call allocates.
@@ -57,13 +142,7 @@ impl Dues {
         sizes: Sizes,
         places: usize,
     ) -> Result<Self, AllocError> {
-        let none = Due {
-            is_kept: false,
-            life: 0,
-            is_asked: false,
-            at: NEVER,
-            latest: 0,
-        };
+        let none = Due::none(0);
         Ok(Dues {
             sizes,
             trans_time: config.trans_time,
@@ -75,18 +154,16 @@ impl Dues {
 
     /// Records that a version came at the place, or was refused by quota.
     pub(crate) fn note(&mut self, visit: &Visit, now: u64) {
-        let at = due_after(now, self.trans_time);
         let number = visit.place.number(self.sizes) as usize;
         self.forget_earlier(&visit.place);
         let Some(due) = self.dues.get_mut(number) else {
             return;
         };
         if visit.at_once {
-            due.is_asked = true;
+            *due = due.asked();
             self.next = 0;
         } else {
-            due.latest = now;
-            due.at = due.at.min(at);
+            *due = due.grown(now, self.trans_time);
             self.next = self.next.min(due.at);
         }
         let is_new = !due.is_kept && (due.is_asked || due.at != NEVER);
@@ -107,20 +184,18 @@ impl Dues {
             return;
         }
         let is_kept = due.is_kept;
-        *due = Due {
-            is_kept: false,
-            life: place.life,
-            is_asked: false,
-            at: NEVER,
-            latest: 0,
-        };
+        *due = Due::none(place.life);
         if is_kept {
             self.kept.retain(|other| other.number(sizes) != number);
         }
     }
 
     /// Returns the time until a place is due, if one will be.
-    pub(crate) fn rest(&self, now: u64) -> Option<Duration> {
+    pub(crate) fn rest(&self, now: u64) -> Option<Duration>
+        ensures never { self.now.next ≡ NEVER → result ≡ None }
+        ensures rest { self.now.next ≢ NEVER → IsSomeAnd result (λ rest.
+            as_nanos rest ≡ min (self.now.next - now) LONGEST_REST * 1_000_000) }
+    {
         rest_until(self.next, now)
     }
 
@@ -139,7 +214,7 @@ impl Dues {
     // Returns `true` if the place is due or to be collected at once.
     fn is_ready(&self, place: &TenantNode, now: u64) -> bool {
         let due = self.dues.get(place.number(self.sizes) as usize);
-        due.is_some_and(|due| due.is_asked || due.at <= now)
+        due.is_some_and(|due| due.is_ready(now))
     }
 
     /// Records a collection of the place at this time. A refused one is tried again after `AGAIN`.
@@ -147,14 +222,7 @@ impl Dues {
         let Some(due) = self.dues.get_mut(place.number(self.sizes) as usize) else {
             return;
         };
-        due.is_asked = false;
-        if due.at > time {
-            return;
-        }
-        due.at = match came {
-            Collected::Refused => time.saturating_add(AGAIN),
-            Collected::Removed(_) => due_again(due.latest, self.trans_time, time),
-        };
+        *due = due.collected(time, came, self.trans_time);
     }
 
     /// Forgets the places where nothing is due.
@@ -175,18 +243,28 @@ impl Dues {
 }
 
 // Returns when a place is due again after a collection, from the time of its latest version.
-fn due_again(latest: u64, trans_time: u64, time: u64) -> u64 {
+fn due_again(latest: u64, trans_time: u64, time: u64) -> u64
+    ensures later { time < min (latest + trans_time + 1) NEVER →
+        result ≡ min (latest + trans_time + 1) NEVER }
+    ensures never { min (latest + trans_time + 1) NEVER ≤ time → result ≡ NEVER }
+{
     let at = due_after(latest, trans_time);
     if at > time { at } else { NEVER }
 }
 
 // Returns the time from which a collection removes what becomes stale at this time.
-fn due_after(time: u64, trans_time: u64) -> u64 {
+fn due_after(time: u64, trans_time: u64) -> u64
+    ensures { result ≡ min (time + trans_time + 1) NEVER }
+{
     time.saturating_add(trans_time).saturating_add(1)
 }
 
 /// Returns the time until then, if it ever comes.
-pub(crate) fn rest_until(time: u64, now: u64) -> Option<Duration> {
+pub(crate) fn rest_until(time: u64, now: u64) -> Option<Duration>
+    ensures never { time ≡ NEVER → result ≡ None }
+    ensures rest { time ≢ NEVER → IsSomeAnd result (λ rest.
+        as_nanos rest ≡ min (time - now) LONGEST_REST * 1_000_000) }
+{
     if time == NEVER {
         return None;
     }

@@ -1,4 +1,7 @@
 //! Streams whose head could not be carried, until their next try.
+ghost use Rattle.std.specs.Prelude.{◌≡◌, ◌≢◌, ◌-◌, ◌*◌, ◌^◌, None, max, min, IsSomeAnd};
+ghost use Rattle.std.specs.Duration.{as_nanos};
+
 use crate::dues::rest_until;
 use crate::notes::{Noted, Notes, Sizes, Stream};
 use std::alloc::{AllocError, Global};
@@ -92,7 +95,11 @@ impl Waiting {
     }
 
     /// Returns the time until a pause ends, if a stream waits.
-    pub(crate) fn rest(&self, now: u64) -> Option<Duration> {
+    pub(crate) fn rest(&self, now: u64) -> Option<Duration>
+        ensures never { self.now.next ≡ 2 ^ 64 - 1 → result ≡ None }
+        ensures rest { self.now.next ≢ 2 ^ 64 - 1 → IsSomeAnd result (λ rest.
+            as_nanos rest ≡ min (self.now.next - now) 60_000 * 1_000_000) }
+    {
         rest_until(self.next, now)
     }
 
@@ -129,6 +136,8 @@ impl Waiting {
 }
 
 // Returns the pause after one of this length.
-fn longer(length: u64) -> u64 {
+fn longer(length: u64) -> u64
+    ensures { result ≡ max SHORTEST (min (length * 2) LONGEST) }
+{
     length.saturating_mul(2).clamp(SHORTEST, LONGEST)
 }
