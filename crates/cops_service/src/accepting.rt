@@ -1,4 +1,7 @@
 //! Accepts connections and hands them to workers.
+ghost use Rattle.std.specs.Prelude.{◌≡◌, ◌*◌, ◌^◌, ◌↔◌, ◌⊎◌, Some, min, IsTrue};
+ghost use Rattle.std.specs.IoError.{raw_os_error};
+
 use crate::reports::Reports;
 use crate::stops::Stop;
 use crossbeam_channel::{SendTimeoutError, Sender};
@@ -46,7 +49,12 @@ pub enum ServiceEnd {
 }
 
 // Returns `true` if the listener is lost for good.
-fn is_lost(error: &io::Error) -> bool {
+fn is_lost(error: &io::Error) -> bool
+    ensures { IsTrue result ↔ (raw_os_error error.now ≡ Some EBADF)
+        ⊎ (raw_os_error error.now ≡ Some EINVAL)
+        ⊎ (raw_os_error error.now ≡ Some ENOTSOCK)
+        ⊎ (raw_os_error error.now ≡ Some EOPNOTSUPP) }
+{
     matches!(
         error.raw_os_error(),
         Some(EBADF | EINVAL | ENOTSOCK | EOPNOTSUPP)
@@ -58,9 +66,15 @@ fn pause<R: Clock>(rt: &R, error: &io::Error, failures: u64) {
     if error.kind() == ErrorKind::ConnectionAborted {
         return;
     }
+    thread::sleep(rt, Duration::from_millis(pause_after(failures)));
+}
+
+// Returns the pause after this many failures in a row, in milliseconds.
+fn pause_after(failures: u64) -> u64
+    ensures { result ≡ min (FIRST_PAUSE * 2 ^ min failures 7) LONGEST_PAUSE }
+{
     let doublings = failures.min(7) as u32;
-    let length = FIRST_PAUSE.wrapping_shl(doublings).min(LONGEST_PAUSE);
-    thread::sleep(rt, Duration::from_millis(length));
+    FIRST_PAUSE.wrapping_shl(doublings).min(LONGEST_PAUSE)
 }
 
 // Returns the next connection, unless the service ends or the listener is lost. Tries again after other errors.

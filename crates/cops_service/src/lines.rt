@@ -1,5 +1,6 @@
 //! A client's socket, with limits of time.
-ghost use Rattle.std.specs.Prelude.{IfSome};
+ghost use Rattle.std.specs.Prelude.{◌≡◌, ◌≢◌, ◌-◌, ◌*◌, ◌^◌, ◌↔◌, ◌⊎◌, min, IfSome, IsTrue};
+ghost use Rattle.std.specs.IoError.{error_kind};
 ghost use Rattle.std.specs.Io.{ReadsAtMost, WritesAtMost};
 
 use crate::reports::Course;
@@ -23,7 +24,10 @@ const LAST_READS: u32 = 64;
 const LAST_MILLIS: u64 = 1000;
 
 /// Returns the grace of open connections after the service is asked to end, in milliseconds.
-pub(crate) fn grace_of(idle: u64) -> u64 {
+pub(crate) fn grace_of(idle: u64) -> u64
+    ensures none { idle ≡ 0 → result ≡ GRACE }
+    ensures limit { idle ≢ 0 → result ≡ min (idle * 1000) (2 ^ 64 - 1) }
+{
     if idle == 0 {
         GRACE
     } else {
@@ -174,7 +178,10 @@ impl<'a, C: Clock> Line<'a, C> {
 }
 
 // Returns `true` if a call that failed with this error should be repeated.
-fn is_pause(error: &io::Error) -> bool {
+fn is_pause(error: &io::Error) -> bool
+    ensures { IsTrue result ↔ (error_kind error.now ≡ ErrorKind.WouldBlock)
+        ⊎ (error_kind error.now ≡ ErrorKind.Interrupted) }
+{
     matches!(error.kind(), ErrorKind::WouldBlock | ErrorKind::Interrupted)
 }
 

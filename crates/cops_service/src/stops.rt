@@ -1,4 +1,7 @@
 //! An orderly end of a service.
+ghost use Rattle.std.specs.Prelude.{◌≡◌, ◌-◌, ◌/◌, ◌^◌, min};
+ghost use Rattle.std.specs.Duration.{as_nanos};
+
 use std::io;
 use std::net::{Shutdown, TcpListener, TcpStream};
 use std::os::fd::OwnedFd;
@@ -58,7 +61,13 @@ impl Stop {
 
 /// Returns the monotonic clock's time in milliseconds.
 pub(crate) fn millis<C: Clock>(clock: &C) -> u64 {
-    let time = clock.monotonic().unwrap_or(Duration::ZERO);
+    millis_of(clock.monotonic().unwrap_or(Duration::ZERO))
+}
+
+// Returns a time in milliseconds.
+fn millis_of(time: Duration) -> u64
+    ensures { result ≡ min (as_nanos time / 1_000_000) (2 ^ 64 - 1) }
+{
     time.as_secs()
         .saturating_mul(1000)
         .saturating_add(u64::from(time.subsec_millis()))
