@@ -10,7 +10,7 @@ ghost use Rattle.cops_service.specs.HostedDesks.{AreHosted, hosted_shape};
 use crate::hosted_tests::{admit, beta, put, two_tenants};
 use crate::hosting_tests::assert_clocks;
 use crate::tests::{closed, config};
-use crate::{Cluster, HostedDesk, LifeDesk, ServiceSeat, hosting_tests};
+use crate::{Cluster, HostedDesk, Life, LifeDesk, Roster, ServiceSeat, TenantHost, hosting_tests};
 use cops_node::{HostedNode, Node, NodeId, has_clocks};
 use cops_types::{Config, Fault, Machine, RequestError};
 use std::alloc::{AllocError, Global};
@@ -205,6 +205,55 @@ fn refused_memory_admits_at_all_nodes_or_at_none(rt: HostRuntime) {
     assert!(rt;
         nodes[0].node().opened_as(2, &beta(&rt)) && nodes[1].node().opened_as(2, &beta(&rt))
     );
+}
+
+/// The roster of a configuration, made again if memory is refused.
+fn roster_of(rt: &impl Abort, alloc: Global, config: &Config) -> Roster {
+    match Roster::of(alloc, config) {
+        Ok(roster) => roster,
+        Err(_) => Roster::of(alloc, config).expect(rt, "memory"),
+    }
+}
+
+/// Admits beta, again if memory is refused. Nobody has its token then.
+fn begun<R: Wait + Abort>(rt: &R, host: &mut TenantHost<'_, R>) -> Life {
+    let tenant = beta(rt);
+    match host.admit(tenant) {
+        Ok(life) => life,
+        Err(error) => {
+            assert!(rt; error == RequestError::OutOfMemory);
+            assert!(rt; host.roster.life_of_token(&tenant.token).is_none());
+            host.admit(tenant).expect(rt, "memory")
+        }
+    }
+}
+
+/// Asserts that beta begins a life, and leaves.
+fn assert_comes_and_goes<R: Wait + Abort>(rt: &R, host: &mut TenantHost<'_, R>) {
+    let life = begun(rt, host);
+    assert!(rt; life.slot == 1);
+    assert!(rt; host.roster.life_of_token(&beta(rt).token) == Some(life));
+    assert!(rt; host.close(b"beta") == Ok(1));
+}
+
+/// Lets beta come and go at two nodes.
+fn live<R: Wait + Abort>(rt: &R, alloc: Global, config: &Config)
+    requires sizes { IsTrue (are_sizes config.now) }
+    requires clocks { IsTrue (are_clocks config.now) }
+{
+    let (cluster, mut seat) = hosted(rt, alloc, config);
+    let mut host = TenantHost {
+        desk: HostedDesk::new(rt, &cluster, &mut seat),
+        roster: roster_of(rt, alloc, config),
+    };
+    assert_comes_and_goes(rt, &mut host);
+}
+
+#[test]
+fn refused_memory_begins_no_life(rt: HostRuntime) {
+    let config = config(&rt, rt.alloc(), 2);
+    assert!(&rt; has_clocks(&config));
+    live(&rt, rt.alloc(), &config);
 }
 
 #[test]
