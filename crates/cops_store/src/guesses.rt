@@ -6,46 +6,67 @@ use indexmap::IndexMap;
 use std::alloc::{AllocError, Global};
 use std::hash::{FoldHasher, Hash, Hasher};
 
-/// The number of cached indices for the first keys.
-const FEWEST: usize = 8;
+/// The number of cells in a bucket.
+const CELLS: usize = 4;
 
-/// The indices at which keys were found last. Several keys may share a cell, and a cell may hold
-/// any number: the caller compares the key at that index.
+/// The number of buckets for the first keys.
+const FEWEST: usize = 2;
+
+/// The indices at which keys were found last. A bucket has those of several keys, the latest first.
+/// A cell has an index in its low bits and some of the key's hash in the others. It may hold any
+/// number: the caller compares the key at the index.
 #[derive(Drop)]
 pub struct Guesses {
-    /// A power of two of cells, or none.
-    cells: Vec<u32>,
+    /// A power of two of buckets, or none.
+    buckets: Vec<[u32; CELLS]>,
+    /// The low bits of a cell: as many as number the cells.
+    low: u32,
 }
 
-// Returns a number that depends on the slot and the key alone. It takes no seeds: keys that share
-// it only share a cell.
+/// The bucket of a slot's key, and bits of which its cell has the high ones. Both are from a hash
+/// that takes no seeds: keys that share it only share a bucket.
+#[derive(Clone, Copy)]
+pub(crate) struct Place {
+    bucket: usize,
+    high: u32,
+}
+
+// Returns a number that depends on the slot and the key alone.
 #[inline(always)]
-fn number_of(slot: usize, key: &Key) -> usize {
+fn number_of(slot: usize, key: &Key) -> u64 {
     let mut hasher = FoldHasher::default();
     slot.hash(&mut hasher);
     key.hash(&mut hasher);
-    hasher.finish() as usize
+    hasher.finish()
 }
 
 impl Guesses {
     // Returns an empty cache. Allocates nothing.
     pub(crate) fn new(alloc: Global) -> Self {
         Guesses {
-            cells: Vec::new(alloc),
+            buckets: Vec::new(alloc),
+            low: 0,
         }
     }
 
-    // Returns the cell of a slot's key.
+    // Returns the place of a slot's key.
     #[inline(always)]
-    pub(crate) fn cell_of(&self, slot: usize, key: &Key) -> usize {
-        number_of(slot, key) & self.cells.len().saturating_sub(1)
+    pub(crate) fn place_of(&self, slot: usize, key: &Key) -> Place {
+        let number = number_of(slot, key);
+        Place {
+            bucket: number as usize & (self.low as usize / CELLS),
+            high: ((number >> 32) & 0xFFFF_FFFF) as u32,
+        }
     }
 
-    // Returns the index in a cell.
+    // Returns the index in a cell of that place, or any other.
     #[inline(always)]
-    pub(crate) fn guess(&self, cell: usize) -> usize {
-        match self.cells.get(cell) {
-            Some(place) => *place as usize,
+    pub(crate) fn guess(&self, place: Place) -> usize {
+        match self.buckets.get(place.bucket) {
+            Some(cells) => {
+                let cell = matching(cells, place.high, self.low);
+                (cell & self.low) as usize
+            }
             None => 0,
         }
     }
@@ -53,14 +74,25 @@ impl Guesses {
     // Returns the cached index for a slot's key.
     #[inline(always)]
     pub(crate) fn guess_for(&self, slot: usize, key: &Key) -> usize {
-        self.guess(self.cell_of(slot, key))
+        self.guess(self.place_of(slot, key))
     }
 
-    // Stores the index of a key in a cell.
+    // Stores an index as the latest of a bucket, whose oldest leaves, unless it was guessed.
     #[inline(always)]
-    pub(crate) fn note(&mut self, cell: usize, place: usize) {
-        if let Some(guess) = self.cells.get_mut(cell) {
-            *guess = (place & 0xFFFF_FFFF) as u32;
+    pub(crate) fn note(&mut self, place: Place, guess: usize, index: usize) {
+        if guess != index {
+            self.enter(place, index);
+        }
+    }
+
+    // Stores an index as the latest of a bucket, whose oldest leaves.
+    #[inline(always)]
+    fn enter(&mut self, place: Place, index: usize) {
+        let high = place.high & !self.low;
+        let low = (index & 0xFFFF_FFFF) as u32 & self.low;
+        if let Some(cells) = self.buckets.get_mut(place.bucket) {
+            let [first, second, third, _] = *cells;
+            *cells = [high | low, first, second, third];
         }
     }
 
@@ -70,7 +102,7 @@ impl Guesses {
         &mut self,
         rows: &IndexMap<SlotKey, Row, Seeds>,
     ) -> Result<(), AllocError> {
-        if rows.len() < self.cells.len() / 2 {
+        if rows.len() / (CELLS / 2) < self.buckets.len() {
             return Ok(());
         }
         self.grow(rows)
@@ -79,15 +111,32 @@ impl Guesses {
     // Doubles the number of cells, or makes the first, and enters the keys of the table.
     #[inline(never)]
     fn grow(&mut self, rows: &IndexMap<SlotKey, Row, Seeds>) -> Result<(), AllocError> {
-        let cells = self.cells.len().saturating_mul(2).max(FEWEST);
-        let alloc = *self.cells.allocator();
-        self.cells = vec![in alloc; 0; cells]?;
-        for place in 0..rows.len() {
-            if let Some((at, _)) = rows.get_index(place) {
-                let cell = self.cell_of(at.slot, &at.key);
-                self.note(cell, place);
+        let buckets = self.buckets.len().saturating_mul(2).max(FEWEST);
+        let alloc = *self.buckets.allocator();
+        self.buckets = vec![in alloc; [0; CELLS]; buckets]?;
+        self.low = (buckets.saturating_mul(CELLS).saturating_sub(1) & 0xFFFF_FFFF) as u32;
+        for index in 0..rows.len() {
+            if let Some((at, _)) = rows.get_index(index) {
+                let place = self.place_of(at.slot, &at.key);
+                self.enter(place, index);
             }
         }
         Ok(())
     }
+}
+
+// Returns the first cell with these high bits, or the last one.
+#[inline(always)]
+fn matching(cells: &[u32; CELLS], high: u32, low: u32) -> u32 {
+    let [first, second, third, last] = *cells;
+    if first ^ high <= low {
+        return first;
+    }
+    if second ^ high <= low {
+        return second;
+    }
+    if third ^ high <= low {
+        return third;
+    }
+    last
 }
