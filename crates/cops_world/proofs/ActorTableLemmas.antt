@@ -1,6 +1,6 @@
 -- The actors of all tenants, by slot and name.
 use Rattle.std.proofs.Common.{◌≡◌, ◌≢◌, ℕ, ◌+◌, arith, Bool, true, false, true≢false, cond, ◌&&◌, List, [], ◌∷◌, refl, sym, ap, ◌∙◌, inl, inr}
-use Rattle.std.specs.Prelude.{Option, Some, None, Result, Ok, Err, OnOk, is_some, nat_eq, count_by}
+use Rattle.std.specs.Prelude.{Option, Some, None, Result, Ok, Err, OnErr, OnOk, is_some, nat_eq, count_by}
 use Rattle.std.specs.Map.{lookup}
 use Rattle.std.proofs.lemmas.Bool.Decides.{Decides-eqb, eqb_tells}
 use Rattle.std.proofs.lemmas.List.Sums.{sum_by-cons}
@@ -50,6 +50,11 @@ other_name slot name other apart = by (same_actor (record { slot = slot; name = 
 pub on_ok_both : {T E P Q R : Type 0} (r : Result T E) → (P → Q → R) → OnOk r P → OnOk r Q → OnOk r R
 on_ok_both (Ok done) both one other = both one other
 on_ok_both (Err error) both one other = tt
+
+-- it holds on an error
+pub on_err_any : {T E P : Type 0} (r : Result T E) → P → OnErr r P
+on_err_any (Ok done) is = tt
+on_err_any (Err error) is = is
 
 -- no slot has more actors or fewer where one was put back
 pub counts_same : (old : Table) (id : ActorId) (after : Actor) (new : Table) → PutsBack old id after new → (slot : ℕ) → count_at new slot ≡ count_at old slot

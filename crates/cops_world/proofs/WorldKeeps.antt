@@ -1,6 +1,6 @@
 -- What a world keeps whatever its tenants do: its actors run at its nodes, and its tenants have its sizes.
 use Rattle.std.proofs.Common.{◌≡◌, ℕ, zero, suc, ◌+◌, ◌-◌, ◌*◌, ◌<◌, ◌≤◌, Bool, true, false, true≢false, ◌&&◌, cond, List, [], ◌∷◌, ◌++◌, length, map, ◌⊎◌, inl, inr, refl, sym, subst, ap, ◌∙◌, arith}
-use Rattle.std.specs.Prelude.{OnErr, OnOk, Option, Some, None, Result, Ok, Err, IsTrue, is_some, replicate, slice_get, slice_index_or}
+use Rattle.std.specs.Prelude.{IfOk, OnErr, Option, Some, None, Result, Ok, Err, IsTrue, is_some, replicate, slice_get, slice_index_or}
 use Rattle.std.specs.declared.alloc.AllocError.{AllocError}
 use Rattle.std.specs.Option.{option_map}
 use Rattle.std.specs.List.{AllByRecursion, list_all, range_with_len}
@@ -169,10 +169,12 @@ kept_placed old kept id after table places own =
     }
 
 -- one was put in, or there was no memory for it
-pub kept_joined : (old : KeptWorld) → IsKeptWorld old → (id : ActorId) (actor : Kept) (table : Table) (done : Result (Unit {0}) AllocError) → OnOk done (Places old.table id (Some actor) table) → OnErr done (table ≡ old.table) →
+pub kept_joined : (old : KeptWorld) → IsKeptWorld old → (id : ActorId) (actor : Kept) (table : Table) (done : Result Bool AllocError) →
+    IfOk done (λ added. added ≡ true → Places old.table id (Some actor) table) → IfOk done (λ added. added ≡ false → table ≡ old.table) → OnErr done (table ≡ old.table) →
     RunsAt (shape_of old.setup.head) id.slot actor → IsTrue (is_open_at old.setup id.slot) → IsKeptWorld (record { setup = old.setup; nodes = old.nodes; table = table })
-kept_joined old kept id actor table (Ok done) places lack runs there = kept_placed old kept id (Some actor) table places (λ other is. (subst (RunsAt (shape_of old.setup.head) id.slot) (same_value actor other is) runs, there))
-kept_joined old kept id actor table (Err error) places lack runs there = subst (λ t. IsKeptWorld (record { setup = old.setup; nodes = old.nodes; table = t })) (sym lack) kept
+kept_joined old kept id actor table (Ok true) places same lack runs there = kept_placed old kept id (Some actor) table (places refl) (λ other is. (subst (RunsAt (shape_of old.setup.head) id.slot) (same_value actor other is) runs, there))
+kept_joined old kept id actor table (Ok false) places same lack runs there = subst (λ t. IsKeptWorld (record { setup = old.setup; nodes = old.nodes; table = t })) (sym (same refl)) kept
+kept_joined old kept id actor table (Err error) places same lack runs there = subst (λ t. IsKeptWorld (record { setup = old.setup; nodes = old.nodes; table = t })) (sym lack) kept
 
 -- a call was made at the nodes
 pub kept_called : (old : KeptWorld) → IsKeptWorld old → (nodes : Cluster) → nodes.shape ≡ old.nodes.shape → map site_in nodes.nodes ≡ map site_in old.nodes.nodes → IsKeptWorld (record { setup = old.setup; nodes = nodes; table = old.table })

@@ -1,6 +1,6 @@
 //! The actors of all tenants: one table, by slot and name.
 ghost use Rattle.std.specs.Option.{option_copied};
-ghost use Rattle.std.specs.Prelude.{◌≡◌, ◌<◌, ◌+◌, [], replicate, is_some, Some, None, IfOk, OnErr, OnOk};
+ghost use Rattle.std.specs.Prelude.{◌≡◌, ◌<◌, ◌+◌, [], replicate, is_some, Some, None, true, false, IfOk, OnErr};
 ghost use Rattle.cops_world.specs.ActorTables.{IsClearedOf, Places, PutsBack, actor_at, count_at, actor_place};
 ghost use Rattle.cops_world.specs.ActorsStand.{actor_ended};
 ghost use Rattle.cops_world.specs.declared.actors.Actor.{Actor as Kept};
@@ -99,18 +99,22 @@ impl ActorTable {
         &mut row.actor
     }
 
-    /// Adds an actor behind the others, and caches its place. Fails with `AllocError` if memory runs out.
+    /// Adds an actor behind the others, and caches its place, unless there is one of its slot and
+    /// name. Returns whether it did. Fails with `AllocError` if memory runs out.
     pub(crate) fn put_new(
         &mut self,
         guesses: &mut Guesses,
         id: ActorId,
         actor: Actor,
-    ) -> Result<(), AllocError>
+    ) -> Result<bool, AllocError>
         requires slot { id.slot < self.old.slots }
-        requires free { actor_at self.old id ≡ None }
-        ensures ok { OnOk result (Places self.old id (Some actor) self.new) }
-        ensures count { OnOk result (count_at self.new id.slot ≡ count_at self.old id.slot + 1) }
+        ensures free { IfOk result (λ added. added ≡ true → actor_at self.old id ≡ None) }
+        ensures ok { IfOk result (λ added. added ≡ true → Places self.old id (Some actor) self.new) }
+        ensures count { IfOk result (λ added. added ≡ true → count_at self.new id.slot ≡ count_at self.old id.slot + 1) }
+        ensures taken { IfOk result (λ added. added ≡ false → is_some (actor_at self.old id) ≡ true) }
+        ensures same { IfOk result (λ added. added ≡ false → self.new ≡ self.old) }
         ensures err { OnErr result (self.new ≡ self.old) }
+        ensures lacks { OnErr result (actor_at self.old id ≡ None) }
     {
         guesses.note(Guesses::cell_of(&id), self.rows.len());
         rings::add(&mut self.rows, &mut self.rings, id, actor)

@@ -1,9 +1,10 @@
 //! The rows of all tenants' actors: those of a slot are linked in a ring.
-ghost use Rattle.std.specs.Prelude.{◌≡◌, ◌<◌, ◌+◌, ◌-◌, ◌^◌, ◌==◌, ℕ, None, Some, length, slice_get, slice_set, if◌then◌else◌, OnErr, OnOk};
-ghost use Rattle.std.specs.List.{swap_remove};
+ghost use Rattle.std.specs.Prelude.{◌≡◌, ◌<◌, ◌+◌, ◌-◌, ◌^◌, ◌==◌, ℕ, None, Some, true, false, is_some, length, slice_get, slice_set, if◌then◌else◌, IfOk, OnErr, OnOk};
+ghost use Rattle.std.specs.List.{IsDistinct, swap_remove};
+ghost use Rattle.std.specs.Map.{keys_of, lookup};
 ghost use Rattle.std.specs.Option.{option_map};
-ghost use Rattle.indexmap.specs.IndexMap.{index_map_len};
-ghost use Rattle.cops_world.specs.ActorTables.{IsClearedOf, Places, actor_at, count_at};
+ghost use Rattle.indexmap.specs.IndexMap.{index_map_len, insert_entry};
+ghost use Rattle.cops_world.specs.ActorTables.{IsClearedOf, Places, actor_at, count_at, same_actor};
 ghost use Rattle.cops_world.specs.ActorRings.{AreKeptIn, AreRings, Links, actors_in, first_in, holed, linked, links_at, longer, passed_to, ring_at, table_in};
 ghost use Rattle.cops_world.specs.declared.actors.ActorId.{ActorId as Id};
 ghost use Rattle.cops_world.specs.declared.rings.ActorRow.{ActorRow as Row};
@@ -11,6 +12,7 @@ ghost use Rattle.cops_world.specs.declared.rings.ActorRow.{ActorRow as Row};
 use crate::actors::{Actor, ActorId};
 use cops_types::Seeds;
 use indexmap::IndexMap;
+use indexmap::map::Entry as Place;
 use std::alloc::AllocError;
 
 /// An actor, and the places of the rows before and behind it in the ring of its slot.
@@ -176,20 +178,49 @@ fn lead_in(rows: &mut IndexMap<ActorId, ActorRow, Seeds>, ring: &mut Ring, at: u
     link(rows, at, first);
 }
 
-// Adds an actor behind the others. Fails with `AllocError` if memory runs out, and changes nothing then.
+// Adds a row behind the others, unless there is one of its slot and name. Returns whether it did.
+// Fails with `AllocError` if memory runs out. Hashes once.
+fn append(
+    rows: &mut IndexMap<ActorId, ActorRow, Seeds>,
+    id: ActorId,
+    row: ActorRow,
+) -> Result<bool, AllocError>
+    ensures free { IfOk result (λ added. added ≡ true → lookup (same_actor id) rows.old.entries ≡ None) }
+    ensures entries { IfOk result (λ added. added ≡ true → rows.new.entries ≡ insert_entry same_actor rows.old.entries id row) }
+    ensures updates { IfOk result (λ added. added ≡ true → (q : Id) → lookup (same_actor q) rows.new.entries ≡ (if same_actor id q then Some row else lookup (same_actor q) rows.old.entries)) }
+    ensures taken { IfOk result (λ added. added ≡ false → is_some (lookup (same_actor id) rows.old.entries) ≡ true) }
+    ensures same { IfOk result (λ added. added ≡ false → rows.new.entries ≡ rows.old.entries) }
+    ensures err { OnErr result (rows.new.entries ≡ rows.old.entries) }
+    ensures lacks { OnErr result (lookup (same_actor id) rows.old.entries ≡ None) }
+    ensures unique { IsDistinct same_actor (keys_of rows.new.entries) }
+{
+    match rows.entry(id)? {
+        Place::Occupied(_place) => Ok(false),
+        Place::Vacant(place) => {
+            place.insert(row);
+            Ok(true)
+        }
+    }
+}
+
+// Adds an actor behind the others, unless there is one of its slot and name. Returns whether it did.
+// Fails with `AllocError` if memory runs out, and changes nothing then.
 pub(crate) fn add(
     rows: &mut IndexMap<ActorId, ActorRow, Seeds>,
     rings: &mut Vec<Ring>,
     id: ActorId,
     actor: Actor,
-) -> Result<(), AllocError>
+) -> Result<bool, AllocError>
     requires slot { id.slot < length rings.old.items }
-    requires free { actor_at (table_in rows.old.entries rings.old.items) id ≡ None }
     requires kept { AreKeptIn rows.old.entries rings.old.items }
     ensures kept { AreKeptIn rows.new.entries rings.new.items }
-    ensures ok { OnOk result (Places (table_in rows.old.entries rings.old.items) id (Some actor) (table_in rows.new.entries rings.new.items)) }
-    ensures count { OnOk result (count_at (table_in rows.new.entries rings.new.items) id.slot ≡ count_at (table_in rows.old.entries rings.old.items) id.slot + 1) }
+    ensures free { IfOk result (λ added. added ≡ true → actor_at (table_in rows.old.entries rings.old.items) id ≡ None) }
+    ensures ok { IfOk result (λ added. added ≡ true → Places (table_in rows.old.entries rings.old.items) id (Some actor) (table_in rows.new.entries rings.new.items)) }
+    ensures count { IfOk result (λ added. added ≡ true → count_at (table_in rows.new.entries rings.new.items) id.slot ≡ count_at (table_in rows.old.entries rings.old.items) id.slot + 1) }
+    ensures taken { IfOk result (λ added. added ≡ false → is_some (actor_at (table_in rows.old.entries rings.old.items) id) ≡ true) }
+    ensures same { IfOk result (λ added. added ≡ false → table_in rows.new.entries rings.new.items ≡ table_in rows.old.entries rings.old.items) }
     ensures err { OnErr result (table_in rows.new.entries rings.new.items ≡ table_in rows.old.entries rings.old.items) }
+    ensures lacks { OnErr result (actor_at (table_in rows.old.entries rings.old.items) id ≡ None) }
 {
     let at = rows.len();
     let slot = id.slot as usize;
@@ -198,10 +229,13 @@ pub(crate) fn add(
         before: at,
         behind: at,
     };
-    rows.insert(id, row)?;
+    let added = append(rows, id, row)?;
+    if !added {
+        return Ok(false);
+    }
     let ring = &mut rings[slot];
     lead_in(rows, ring, at);
-    Ok(())
+    Ok(true)
 }
 
 // Removes all rows of a slot, and visits no others but those that take their places.

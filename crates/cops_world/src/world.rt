@@ -251,17 +251,39 @@ impl World {
         None
     }
 
-    /// Adds a new actor, whose name is free and whose tenant may have one more.
-    fn join(&mut self, id: ActorId, actor: Actor) -> Result<(), AllocError>
+    /// Returns why a new actor may not join, if its tenant has as many as it may. Looks up no name
+    /// otherwise.
+    fn refuses_if_full(&self, id: ActorId) -> Option<Fault>
+        requires { IsTrue (is_open_at self.now.setup id.slot) }
+        ensures refused { IfSome result (λ fault. (solo : Solo) (reply : Reply) → Moves AnyReply (join_step id.name solo reply) (world_of self.now) id.slot (Ok (Refused fault)) (world_of self.now)) }
+        ensures spared { IfSome result (λ fault. fault ≢ OutOfMemory) }
+        ensures room { IfNone result (nat_le (config_in self.now.setup id.slot).quota.actors ((world_of self.now).count id.slot) ≡ false) }
+    {
+        if self.is_full(id.slot) {
+            return self.refuses(id);
+        }
+        None
+    }
+
+    /// Adds a new actor, whose tenant may have one more, unless its name is taken. Returns why it may
+    /// not join, if so. Looks up the name once.
+    fn join(&mut self, id: ActorId, actor: Actor) -> Result<Option<Fault>, AllocError>
         requires slot { IsTrue (is_open_at self.old.setup id.slot) }
         requires runs { RunsAt (shape_of self.old.setup.head) id.slot actor }
-        requires free { (world_of self.old).actors id ≡ None }
         requires room { nat_le (config_in self.old.setup id.slot).quota.actors ((world_of self.old).count id.slot) ≡ false }
-        ensures joined { OnOk result ((solo : Solo) (reply : Reply) → ActorStandsFor (config_in self.old.setup id.slot) actor solo →
-            Moves AnyReply (join_step id.name solo reply) (world_of self.old) id.slot (Ok reply) (world_of self.new)) }
+        ensures joined { IfOk result (λ refusal. IfNone refusal ((solo : Solo) (reply : Reply) → ActorStandsFor (config_in self.old.setup id.slot) actor solo →
+            Moves AnyReply (join_step id.name solo reply) (world_of self.old) id.slot (Ok reply) (world_of self.new))) }
+        ensures refused { IfOk result (λ refusal. IfSome refusal (λ fault. (solo : Solo) (reply : Reply) →
+            Moves AnyReply (join_step id.name solo reply) (world_of self.old) id.slot (Ok (Refused fault)) (world_of self.new))) }
+        ensures spared { IfOk result (λ refusal. IfSome refusal (λ fault. fault ≢ OutOfMemory)) }
         ensures err { OnErr result (world_of self.new ≡ world_of self.old) }
+        ensures free { OnErr result ((world_of self.old).actors id ≡ None) }
     {
-        self.actors.put_new(&mut self.guesses, id, actor)
+        let joined = self.actors.put_new(&mut self.guesses, id, actor)?;
+        if joined {
+            return Ok(None);
+        }
+        Ok(Some(Fault::NameTaken))
     }
 
     /// Opens a session of a tenant at a data centre.
@@ -280,7 +302,8 @@ impl World {
         let tenant = self.tenant(slot);
         let session = new_session(self.alloc, &self.config, tenant, slot, dc)?;
         match self.join(ActorId { slot, name: *name }, session) {
-            Ok(()) => Ok(Reply::Opened),
+            Ok(None) => Ok(Reply::Opened),
+            Ok(Some(taken)) => Ok(Reply::Refused(taken)),
             Err(error) => Err(error),
         }
     }
@@ -317,12 +340,13 @@ impl World {
         if !self.has_stream(origin, to_dc) {
             return Ok(Reply::Refused(Fault::NoSuchPlace));
         }
-        if let Some(fault) = self.refuses(ActorId { slot, name: *name }) {
+        if let Some(fault) = self.refuses_if_full(ActorId { slot, name: *name }) {
             return Ok(Reply::Refused(fault));
         }
         let carrier = new_carrier(&self.config, origin, to_dc);
         match self.join(ActorId { slot, name: *name }, carrier) {
-            Ok(()) => Ok(Reply::Started),
+            Ok(None) => Ok(Reply::Started),
+            Ok(Some(taken)) => Ok(Reply::Refused(taken)),
             Err(error) => Err(error),
         }
     }
