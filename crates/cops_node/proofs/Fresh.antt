@@ -62,7 +62,7 @@ no_mark home n node = by (node % home.shape.shards == home.id.shard)
     by true = replicate_read n (node / home.shape.shards) no_version
     by false = refl
 
-length_replicate : {A : Type 0} (n : ℕ) (x : A) → length (replicate n x) ≡ n
+pub length_replicate : {A : Type 0} (n : ℕ) (x : A) → length (replicate n x) ≡ n
 length_replicate zero x = refl
 length_replicate (suc n) x = ap suc (length_replicate n x)
 
@@ -82,7 +82,7 @@ clock_at [] slot terms clocks is = absurd (true≢false (sym (ap is_some is)))
 clock_at (t ∷ tenants) zero terms clocks is = subst (λ (k : Terms). k.first_clock ≤ last_clock) (some_same (terms_of t) terms is) clocks.0
 clock_at (t ∷ tenants) (suc slot) terms clocks is = clock_at tenants slot terms clocks.1 is
 
-nothing_waits : (data_centres slots dc slot : ℕ) → let none : List (List (List Entry)) = replicate data_centres (replicate slots []) in get_or (get_or none dc []) slot [] ≡ []
+pub nothing_waits : (data_centres slots dc slot : ℕ) → let none : List (List (List Entry)) = replicate data_centres (replicate slots []) in get_or (get_or none dc []) slot [] ≡ []
 nothing_waits zero slots dc slot = refl
 nothing_waits (suc data_centres) slots zero slot = replicate_read slots slot []
 nothing_waits (suc data_centres) slots (suc dc) slot = nothing_waits data_centres slots dc slot

@@ -18,3 +18,4 @@ pub mod PartTurns
 pub mod Admissions
 pub mod Hosting
 pub mod LifeLemmas
+pub mod CountingTurns

@@ -13,6 +13,7 @@ use Rattle.cops_node.specs.declared.parts.Counters.{Counters}
 use Rattle.cops_node.specs.declared.parts.Part.{Part}
 use Rattle.cops_node.specs.declared.Home.{Home}
 use Rattle.cops_node.specs.Parts.{HasPartRoom, HasSolo, IsDone, IsPartTurn, IsUnchanged, OthersStay, StandsAt, StandsForTrail, place_under, solo_in}
+use Rattle.cops_model.specs.Place.{Place}
 use Rattle.cops_model.specs.SoloNode.{SoloNode}
 use Rattle.cops_model.specs.Step.{CallEffect, audited, effect, node_step, unchanged}
 use Rattle.cops_node.proofs.AuditLaws.{trail_of_effect}
@@ -30,32 +31,34 @@ nothing_done counters counters' store store' outbox outbox' slot same = record {
   data_centres = ap (λ (o : Queues). length o.queues) same.outbox_is;
 }
 
+pub StandsAt-unchanged : (slot : ℕ) (place : Place) (counters counters' : Counters) (store store' : Contents) (outbox outbox' : Queues) (solo : SoloNode) → IsUnchanged counters store outbox counters' store' outbox'
+    → StandsAt slot place counters store outbox solo → StandsAt slot place counters' store' outbox' solo
+StandsAt-unchanged slot place counters counters' store store' outbox outbox' solo same h =
+    subst (λ (k : Counters). StandsAt slot place k store' outbox' solo) (sym same.counters_are) (record {
+      home_is = h.home_is;
+      stored = subst (λ n. slot < n) (sym same.tenants) h.stored;
+      queued = subst (λ (o : Queues). slot < o.tenants) (sym same.outbox_is) h.queued;
+      own_is = ap (λ (o : Queues). o.own) same.outbox_is ∙ h.own_is;
+      all_queues = ap (λ (o : Queues). length o.queues) same.outbox_is ∙ h.all_queues;
+      rows = subst (λ rs. StandsFor rs solo.recs) (sym (ap (λ rs. rows_of slot (record store { rows = rs })) same.rows)) h.rows;
+      queues = λ dc is_other. ap (queue_of slot dc) same.outbox_is ∙ h.queues dc is_other;
+      all_acked = h.all_acked;
+      acked = h.acked;
+      clock_is = h.clock_is;
+      clock_fits = h.clock_fits;
+      marks = h.marks;
+      late = h.late;
+    })
+
 module _ (slot : ℕ) (home : Home) (p new : Part) (calls : List AuditEntry) (store store' : Contents) (outbox outbox' : Queues) (old : StandsForTrail slot home p calls store outbox)
     (terms_are : new.terms ≡ p.terms) (moment_is : new.moment ≡ p.moment)
     (same : IsUnchanged p.counters store outbox new.counters store' outbox') where
   pub stands_still : StandsForTrail slot home new calls store' outbox'
   stands_still =
       let terms = sym terms_are in
-      let h = old.stands in
-      let solo : SoloNode = solo_in home p.terms calls in
-      let stands : StandsAt slot (place_under home p.terms) p.counters store' outbox' (solo_in home p.terms calls) = record {
-        home_is = h.home_is;
-        stored = subst (λ n. slot < n) (sym same.tenants) h.stored;
-        queued = subst (λ (o : Queues). slot < o.tenants) (sym same.outbox_is) h.queued;
-        own_is = ap (λ (o : Queues). o.own) same.outbox_is ∙ h.own_is;
-        all_queues = ap (λ (o : Queues). length o.queues) same.outbox_is ∙ h.all_queues;
-        rows = subst (λ rs. StandsFor rs solo.recs) (sym (ap (λ rs. rows_of slot (record store { rows = rs })) same.rows)) h.rows;
-        queues = λ dc is_other. ap (queue_of slot dc) same.outbox_is ∙ h.queues dc is_other;
-        all_acked = h.all_acked;
-        acked = h.acked;
-        clock_is = h.clock_is;
-        clock_fits = h.clock_fits;
-        marks = h.marks;
-        late = h.late;
-      } in
       record {
         stands = subst (λ (q : Terms). StandsAt slot (place_under home q) new.counters store' outbox' (solo_in home q calls)) terms
-            (subst (λ (k : Counters). StandsAt slot (place_under home p.terms) k store' outbox' (solo_in home p.terms calls)) (sym same.counters_are) stands);
+            (StandsAt-unchanged slot (place_under home p.terms) p.counters new.counters store store' outbox outbox' (solo_in home p.terms calls) same old.stands);
         moment = subst (λ (q : Terms). (solo_in home q calls).moment ≡ new.moment) terms (old.moment ∙ sym moment_is);
         trail_is = subst (λ (q : Terms). (solo_in home q calls).trail ≡ calls) terms old.trail_is;
       }

@@ -23,3 +23,4 @@ pub mod Pages
 pub use Rattle.cops_outbox.specs.Queues
 pub mod Hosting
 pub mod Lacking
+pub mod Counting

@@ -7,7 +7,9 @@ mod cluster;
 #[cfg(test)]
 mod cluster_tests;
 mod commits;
+mod counting;
 mod gets;
+mod homes;
 mod hosted;
 #[cfg(test)]
 mod hosted_tests;
@@ -34,6 +36,7 @@ mod tests;
 pub use cluster::Cluster0;
 pub use cops_model::{AuditEntry, NodeCall, NodeId, NodeReply, Wanted};
 use cops_types::Quota;
+pub use counting::CountingNode;
 pub use hosted::{HostedNode, SlotCall, SlotReply};
 pub use laws::{audit_tells_all, greatest_version_stays, marks_never_fall};
 pub use limits::has_clocks;

@@ -7,14 +7,14 @@ ghost use Rattle.cops_types.specs.Version.{last_clock};
 ghost use Rattle.cops_types.specs.RequestErrors.{AnswersUnless};
 ghost use Rattle.cops_node.specs.Lacking.{MayLack};
 ghost use Rattle.cops_node.specs.Parts.{AuditFits, IsAudited, IsSlotKept, IsSoloTurn, IsTurn, JoinsTrail, admit_refusal, are_clocks, has_audit_room, home_of, is_opened_as, is_taken, no_calls, opening_terms, place_at, place_for, solo_of, terms_at, trail_of};
-ghost use Rattle.cops_model.specs.Place.{Place, is_home, is_other_dc, is_other_equivalent, fits};
+ghost use Rattle.cops_model.specs.Place.{Place, fits};
 ghost use Rattle.cops_node.specs.Shape.{place_in};
 
 use crate::parts::{self, Caller, Part, Storage};
-use crate::{AuditPages, AuditRow, Home, NodeCall, NodeId, NodeReply, Shape, Terms, part_turns};
+use crate::{AuditPages, AuditRow, Home, NodeCall, NodeId, NodeReply, Terms, part_turns};
 use cops_outbox::Outbox;
 use cops_store::Store;
-use cops_types::{Config, Fault, Key, Machine, Quota, RequestError, Seeds, Tenant};
+use cops_types::{Config, Fault, Machine, Quota, RequestError, Seeds, Tenant};
 use std::alloc::{AllocError, Global};
 use std::marker::Model;
 
@@ -63,14 +63,7 @@ impl Node {
         let audit = AuditPages::new(alloc, tenants)?;
         Ok(Node {
             alloc,
-            home: Home {
-                id,
-                shape: Shape {
-                    data_centres: config.data_centres,
-                    shards: config.shards,
-                },
-                trans_time: config.trans_time,
-            },
+            home: Home::of(config, id),
             parts,
             audit,
             storage: Storage { store, outbox },
@@ -84,43 +77,11 @@ impl Node {
         self.parts.len() as u64
     }
 
-    // Returns `true` if this shard stores the key.
-    fn is_home(&self, key: &Key) -> bool
-        ensures { result ≡ is_home (place_in self.now.home.shape self.now.home.id) key.now }
-    {
-        key.shard(self.home.shape.shards) == self.home.id.shard
-    }
-
-    // Returns `true` if the data centre is another one of the cluster.
-    fn is_other_dc(&self, dc: u64) -> bool
-        ensures { result ≡ is_other_dc (place_in self.now.home.shape self.now.home.id) dc }
-    {
-        dc < self.home.shape.data_centres && dc != self.home.id.dc
-    }
-
-    // Returns `true` if the node of this number has this shard in another data centre.
-    fn is_other_equivalent(&self, node: u64) -> bool
-        ensures { result ≡ is_other_equivalent (place_in self.now.home.shape self.now.home.id) node }
-    {
-        self.is_other_dc(node / self.home.shape.shards)
-            && node % self.home.shape.shards == self.home.id.shard
-    }
-
     /// Returns `true` if the call may come to this node.
     pub fn fits(&self, call: &NodeCall) -> bool
         ensures { result ≡ fits (place_in self.now.home.shape self.now.home.id) call.now }
     {
-        match call {
-            NodeCall::Get(key, _) => self.is_home(key),
-            NodeCall::Put(key, _, _, _) => self.is_home(key),
-            NodeCall::DepCheck(key, _) => self.is_home(key),
-            NodeCall::Pull(dc) => self.is_other_dc(*dc),
-            NodeCall::Commit(entry) => {
-                self.is_home(&entry.key()) && self.is_other_equivalent(entry.version().node())
-            }
-            NodeCall::Ack(dc, _) => self.is_other_dc(*dc),
-            NodeCall::Collect => true,
-        }
+        self.home.fits(call)
     }
 
     /// Returns the number of calls in the trail of a slot.

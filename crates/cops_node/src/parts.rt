@@ -59,7 +59,7 @@ pub(crate) fn fresh(alloc: Global, data_centres: u64, terms: Terms) -> Result<Pa
 }
 
 // Returns the terms of a tenant.
-fn terms_for(tenant: &Tenant) -> Terms
+pub(crate) fn terms_for(tenant: &Tenant) -> Terms
     ensures { result ≡ terms_of tenant.now }
 {
     Terms {
