@@ -9,7 +9,7 @@ use Rattle.cops_types.specs.Words.{parts_at, space, spaced}
 use Rattle.cops_types.proofs.WordLemmas.{Lacks, bytes_from_test, parts_back, parts_joined, same_bytes, same_value}
 use Rattle.cops_model.specs.declared.calls.NodeReply.{NodeReply}
 use Rattle.cops_model.specs.declared.calls.NodeReply.TheVariants.{Found, Absent, Gone, NotYet, Stored, Checked, Pulled, Nothing, Committed, Already, OutOfOrder, Acked, NotFront, Removed, Refused}
-use Rattle.cops_node.specs.Clusters.{Cluster, nodes_of}
+use Rattle.cops_model.specs.SoloNode.{SoloNode}
 use Rattle.cops_replay.specs.declared.reading.Asked.{Asked}
 use Rattle.cops_replay.specs.declared.Record.{Record}
 use Rattle.cops_replay.specs.AskedLines.{record_told, reply_told}
@@ -18,7 +18,7 @@ use Rattle.cops_replay.specs.RecordText.{has_form, is_reply, reply_words}
 use Rattle.cops_replay.specs.RecordWords.{Read, done_with, then_read, version_in}
 use Rattle.cops_replay.specs.Replaying.{Agrees}
 use Rattle.cops_replay.specs.Replayings.{IsLineReplayed}
-use Rattle.cops_replay.specs.Replays.{IsReplied}
+use Rattle.cops_replay.specs.Replays.{IsReplied, Lone}
 use Rattle.cops_replay.proofs.LinesBack.{reply_back}
 use Rattle.cops_replay.proofs.LinesSpelled.{reply_is, whole_is}
 use Rattle.cops_replay.proofs.WordsLack.{reply_free}
@@ -86,21 +86,21 @@ with_reply tenant asked (Some read) = by_end read.1
     by_end [] = refl
     by_end (word ∷ words) = refl
 
-module _ (config : TenantConfig) (line : List ℕ) (words : List (List ℕ)) (old new : Cluster) (are : words ≡ parts_at space line) where
-  nothing_told : record_told line ≡ None → IsLineReplayed config line old false new
+module _ (config : TenantConfig) (line : List ℕ) (words : List (List ℕ)) (solos : List SoloNode) (new : Lone) (are : words ≡ parts_at space line) where
+  nothing_told : record_told line ≡ None → IsLineReplayed config line solos false new
   nothing_told none = λ told some agrees. (let clash : None ≡ Some told = sym none ∙ some in cc)
 
   told_is_after : record_told line ≡ told_after (read_asked version_in words)
   told_is_after = ap (λ ws. told_after (read_asked version_in ws)) (sym are)
 
-  pub line_without_call : read_asked version_in words ≡ None → IsLineReplayed config line old false new
+  pub line_without_call : read_asked version_in words ≡ None → IsLineReplayed config line solos false new
   line_without_call none = nothing_told (told_is_after ∙ ap told_after none)
 
   module _ (asked : List ℕ × Asked) (rest : List (List ℕ)) (read : read_asked version_in words ≡ Some (asked, rest)) where
     line_is : record_told line ≡ option_map (record_with asked.1) (whole (read_reply version_in rest))
     line_is = told_is_after ∙ ap told_after read ∙ with_reply asked.0 asked.1 (read_reply version_in rest)
 
-    pub line_without_reply : rest ≡ [] → IsLineReplayed config line old false new
+    pub line_without_reply : rest ≡ [] → IsLineReplayed config line solos false new
     line_without_reply none = nothing_told (line_is ∙ ap (λ ws. option_map (record_with asked.1) (whole (read_reply version_in ws))) none)
 
     module _ (text : List ℕ) (left : rest ≡ parts_at space text) where
@@ -108,18 +108,18 @@ module _ (config : TenantConfig) (line : List ℕ) (words : List (List ℕ)) (ol
       told_is = line_is ∙ ap (λ ws. option_map (record_with asked.1) (whole (read_reply version_in ws))) left
 
       -- a record of the line is one of the call and the reply that the text says
-      of_text : (told : Record) → record_told line ≡ Some told → Agrees config told (nodes_of config 0 old)
-          → ((reply : NodeReply) → reply_told text ≡ Some reply → Agrees config (record_with asked.1 reply) (nodes_of config 0 old) → ⊥) → ⊥
+      of_text : (told : Record) → record_told line ≡ Some told → Agrees config told solos
+          → ((reply : NodeReply) → reply_told text ≡ Some reply → Agrees config (record_with asked.1 reply) solos → ⊥) → ⊥
       of_text told some agrees wrong = by_reply (reply_told text) refl (sym told_is ∙ some)
         where
           by_reply : (r : Option NodeReply) → reply_told text ≡ r → option_map (record_with asked.1) r ≡ Some told → ⊥
           by_reply None is e = (let clash : None ≡ Some told = e in cc)
-          by_reply (Some reply) is e = wrong reply is (subst (λ (t : Record). Agrees config t (nodes_of config 0 old)) (sym (same_value (record_with asked.1 reply) told e)) agrees)
+          by_reply (Some reply) is e = wrong reply is (subst (λ (t : Record). Agrees config t solos) (sym (same_value (record_with asked.1 reply) told e)) agrees)
 
-      pub line_not_replied : IsReplied config asked.1 old None new → IsLineReplayed config line old false new
+      pub line_not_replied : IsReplied config asked.1 solos None new → IsLineReplayed config line solos false new
       line_not_replied none = λ told some agrees. of_text told some agrees (λ reply is agreeing. none reply agreeing)
 
-      pub line_replied : (reply : NodeReply) (same : Bool) → IsReplied config asked.1 old (Some reply) new → (IsTrue same ↔ (reply_told text ≡ Some reply)) → IsLineReplayed config line old same new
+      pub line_replied : (reply : NodeReply) (same : Bool) → IsReplied config asked.1 solos (Some reply) new → (IsTrue same ↔ (reply_told text ≡ Some reply)) → IsLineReplayed config line solos same new
       line_replied reply true replied is = (record_with asked.1 reply, told_is ∙ ap (option_map (record_with asked.1)) (is.0 refl), replied)
       line_replied reply false replied is = λ told some agrees. of_text told some agrees (λ found says agreeing.
           (let one : found ≡ reply = agreeing.same_reply ∙ sym replied.0.same_reply in

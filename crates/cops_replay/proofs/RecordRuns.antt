@@ -10,7 +10,7 @@ use Rattle.cops_script.specs.LineRules.{Run}
 use Rattle.cops_types.specs.Lines.{cut_line}
 use Rattle.cops_types.specs.TenantConfig.{TenantConfig}
 use Rattle.cops_types.specs.Words.{first_word, newline}
-use Rattle.cops_node.specs.Clusters.{nodes_of}
+use Rattle.cops_model.specs.SoloNode.{SoloNode}
 use Rattle.cops_script.proofs.CutLemmas.{same_first_at}
 use Rattle.cops_replay.specs.declared.layouts.Layout.{Layout}
 use Rattle.cops_replay.specs.declared.layouts.Layout.TheVariants.{Today, Early}
@@ -20,10 +20,11 @@ use Rattle.cops_replay.specs.declared.Replayed.TheVariants.{Same, FirstDifferenc
 use Rattle.cops_replay.specs.OldRecords.{is_old_record, old_record_in, versions_in}
 use Rattle.cops_replay.specs.OwnLines.{alone_lines}
 use Rattle.cops_replay.specs.RecordLines.{record_by}
+use Rattle.cops_replay.specs.Replaying.{nodes_after}
 use Rattle.cops_replay.specs.Replayings.{Differs, IsReplayedLine, Passes, Standing, found_of, found_so_far}
 use Rattle.cops_replay.specs.ReplayRules.{ReplaysOwn, replay_lines}
 use Rattle.cops_replay.specs.ReplayText.{FindsBy, is_great_in, longest_record, replayed_text, told_number, told_of}
-use Rattle.cops_replay.specs.Replays.{IsAlone}
+use Rattle.cops_replay.specs.Replays.{AreLoneNodes}
 use Rattle.cops_replay.proofs.AuditHeads.{by_test, take_all}
 
 -- ---- lines, as they are cut
@@ -68,13 +69,13 @@ same_told n = grind arith
 -- from this standing the lines lead to that one
 pub record Tells (layout : Layout) (config : TenantConfig) (old : Standing) (lines : List (List ℕ)) (new : Standing) : Type 0 where
   pub over : (place : ℕ) → old.found ≡ Some place → found_of new ≡ FirstDifference place
-  pub goes : (count : ℕ) → old.layout ≡ layout → old.passed ≡ told_number count → old.found ≡ None → IsAlone config old.nodes →
-      (found : Replayed) × FindsBy layout Today config count (nodes_of config 0 old.nodes) lines found × TellsAs (found_of new) found
+  pub goes : (count : ℕ) (solos : List SoloNode) → old.layout ≡ layout → old.passed ≡ told_number count → old.found ≡ None → AreLoneNodes config old.nodes solos →
+      (found : Replayed) × FindsBy layout Today config count solos lines found × TellsAs (found_of new) found
 
 tells_none : (layout : Layout) (config : TenantConfig) (old : Standing) → Tells layout config old [] old
 tells_none layout config old = record {
   over = λ place e. ap (found_so_far old.passed) e;
-  goes = λ count at passed none alone. (
+  goes = λ count solos at passed none are. (
     Same count,
     refl,
     ap replayed_text (ap (found_so_far old.passed) none) ∙ ap (λ n. codes "same " ++ decimal n ++ newline ∷ []) (ap told_number passed ∙ same_told count),
@@ -84,19 +85,19 @@ tells_none layout config old = record {
 tells_line : (layout : Layout) (config : TenantConfig) (line : List ℕ) (lines : List (List ℕ)) (old mid new : Standing) → IsReplayedLine (cut_line longest_record line) old mid → Tells layout config mid lines new → Tells layout config old (line ∷ lines) new
 tells_line layout config line lines old mid new h p = record {
   over = λ place e. p.over place (ap (λ (s : Standing). s.found) (h.over place e) ∙ e);
-  goes = λ count at passed none alone. by_case count at passed (h.goes none config alone);
+  goes = λ count solos at passed none are. by_case count solos at passed (h.goes none config solos are);
 }
   where
     same_record : old.layout ≡ layout → told_of old.layout (cut_line longest_record line) ≡ told_of layout line
     same_record at = ap (λ (l : Layout). told_of l (cut_line longest_record line)) at ∙ told_cut layout line
 
-    by_case : (count : ℕ) → old.layout ≡ layout → old.passed ≡ told_number count → Passes config (cut_line longest_record line) old mid ⊎ Differs config (cut_line longest_record line) old mid →
-        (found : Replayed) × FindsBy layout Today config count (nodes_of config 0 old.nodes) (line ∷ lines) found × TellsAs (found_of new) found
-    by_case count at passed (inl q) =
+    by_case : (count : ℕ) (solos : List SoloNode) → old.layout ≡ layout → old.passed ≡ told_number count → Passes config (cut_line longest_record line) solos old mid ⊎ Differs config (cut_line longest_record line) solos old mid →
+        (found : Replayed) × FindsBy layout Today config count solos (line ∷ lines) found × TellsAs (found_of new) found
+    by_case count solos at passed (inl q) =
         let next : mid.passed ≡ told_number (count + 1) = q.passed_is ∙ ap counted passed ∙ capped_more count in
-        let rest = p.goes (count + 1) (h.layout ∙ at) next q.found_is q.alone in
-        (rest.0, inl (q.told, sym (same_record at) ∙ q.told_is, q.agrees, subst (λ ns. FindsBy layout Today config (count + 1) ns lines rest.0) q.after rest.1), rest.2)
-    by_case count at passed (inr q) =
+        let rest = p.goes (count + 1) (nodes_after config q.told solos) (h.layout ∙ at) next q.found_is q.after in
+        (rest.0, inl (q.told, sym (same_record at) ∙ q.told_is, q.agrees, rest.1), rest.2)
+    by_case count solos at passed (inr q) =
         let end = p.over (counted old.passed) q.found_is in (
           FirstDifference (count + 1),
           inr ((λ told is. q.differs told (same_record at ∙ is)), refl),

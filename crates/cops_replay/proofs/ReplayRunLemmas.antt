@@ -67,7 +67,7 @@ module _ (body : ReplaysOf) where
         by_start (silent, (slot, tenant, there, tenant_is, starts, layout_is, fresh)) =
             let mine = tenant_config p.config tenant in
             let ran = running body.name p.layout mine short p.records p.first p.more state layout_is p.run in
-            let told = ran.tells.goes 0 layout_is (fresh.passed_is ∙ omega arith) fresh.found_is fresh.alone in
+            let told = ran.tells.goes 0 (fresh_nodes mine) layout_is (fresh.passed_is ∙ omega arith) fresh.found_is fresh.nodes_are in
             record {
               slot = slot;
               tenant = tenant;
@@ -78,8 +78,7 @@ module _ (body : ReplaysOf) where
               silent = p.text_is ∙ (λ i. silent i ++ ran.silent i);
               small = ran.small;
               found = told.0;
-              finds = by_its_rules p.layout p.config tenant (alone_lines body.name p.records) told.0 starts
-                  (subst (λ ns. FindsBy p.layout Today mine 0 ns (alone_lines body.name p.records) told.0) fresh.nodes_are told.1);
+              finds = by_its_rules p.layout p.config tenant (alone_lines body.name p.records) told.0 starts told.1;
               told = told.2;
             }
 

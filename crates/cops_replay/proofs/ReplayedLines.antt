@@ -7,16 +7,17 @@ use Rattle.cops_types.specs.declared.faults.Fault.{Fault}
 use Rattle.cops_types.specs.declared.faults.Fault.TheVariants as fault
 use Rattle.cops_types.specs.Refusal.{refused_if}
 use Rattle.cops_types.specs.TenantConfig.{TenantConfig}
-use Rattle.cops_node.specs.Clusters.{nodes_of}
+use Rattle.cops_model.specs.SoloNode.{SoloNode}
 use Rattle.cops_replay.specs.declared.layouts.Layout.{Layout}
 use Rattle.cops_replay.specs.declared.layouts.Layout.TheVariants.{Today, Early}
 use Rattle.cops_replay.specs.declared.Record.{Record}
 use Rattle.cops_replay.specs.AskedLines.{record_told}
 use Rattle.cops_replay.specs.OldRecords.{is_old_record, old_record_in, versions_in}
 use Rattle.cops_replay.specs.RecordLines.{record_by}
+use Rattle.cops_replay.specs.Replaying.{nodes_after}
 use Rattle.cops_replay.specs.ReplayText.{great_clock_of, is_great_in, longest_record, told_of}
 use Rattle.cops_replay.specs.Replayings.{IsLineReplayed, IsRecordCounted, IsReplayedLine, MayAgree, Standing}
-use Rattle.cops_replay.specs.Replays.{IsAlone}
+use Rattle.cops_replay.specs.Replays.{AreLoneNodes}
 use Rattle.cops_replay.proofs.EarlyRecords.{early_record}
 
 -- ---- a line
@@ -41,31 +42,30 @@ unread_line line old new over e is none noted =
     (record {
       layout = noted.0;
       over = not_over old here;
-      goes = λ nothing config alone. inr (record {
+      goes = λ nothing config solos are. inr (record {
         differs = λ t some agrees. (let clash : None ≡ Some t = sym none ∙ some in cc);
         found_is = noted.1;
       });
     })
 
 pub read_line : (line : List ℕ) (old mid new : Standing) (over : Bool) (agreed : Bool) → over ≡ false → over ≡ is_some old.found → told_of old.layout line ≡ record_told line → mid.layout ≡ old.layout →
-    ((config : TenantConfig) → IsAlone config old.nodes → IsLineReplayed config line old.nodes agreed mid.nodes) → mid.passed ≡ old.passed → mid.found ≡ old.found → IsRecordCounted agreed mid new → IsReplayedLine line old new
+    ((config : TenantConfig) (solos : List SoloNode) → AreLoneNodes config old.nodes solos → IsLineReplayed config line solos agreed mid.nodes) → mid.passed ≡ old.passed → mid.found ≡ old.found → IsRecordCounted agreed mid new → IsReplayedLine line old new
 read_line line old mid new over agreed e is told_is layout replayed passed found noted = by_case agreed replayed noted
   where
     here : old.found ≡ None
     here = none_from old.found over e is
 
-    by_case : (a : Bool) → ((config : TenantConfig) → IsAlone config old.nodes → IsLineReplayed config line old.nodes a mid.nodes) → IsRecordCounted a mid new → IsReplayedLine line old new
+    by_case : (a : Bool) → ((config : TenantConfig) (solos : List SoloNode) → AreLoneNodes config old.nodes solos → IsLineReplayed config line solos a mid.nodes) → IsRecordCounted a mid new → IsReplayedLine line old new
     by_case true run note = record {
       layout = note.0 ∙ layout;
       over = not_over old here;
-      goes = λ nothing config alone.
-          let r = run config alone in
+      goes = λ nothing config solos are.
+          let r = run config solos are in
           inl (record {
             told = r.0;
             told_is = told_is ∙ r.1;
             agrees = r.2.0;
-            after = ap (nodes_of config 0) note.1 ∙ r.2.1;
-            alone = subst (IsAlone config) (sym note.1) r.2.2;
+            after = subst (λ ns. AreLoneNodes config ns (nodes_after config r.0 solos)) (sym note.1) r.2.1;
             passed_is = note.2 ∙ ap counted passed;
             found_is = note.3 ∙ found ∙ here;
           });
@@ -73,8 +73,8 @@ read_line line old mid new over agreed e is told_is layout replayed passed found
     by_case false run note = record {
       layout = note.0 ∙ layout;
       over = not_over old here;
-      goes = λ nothing config alone. inr (record {
-        differs = λ told some agrees. run config alone told (sym told_is ∙ some) agrees;
+      goes = λ nothing config solos are. inr (record {
+        differs = λ told some agrees. run config solos are told (sym told_is ∙ some) agrees;
         found_is = note.1 ∙ ap (λ n. Some (counted n)) passed;
       });
     }

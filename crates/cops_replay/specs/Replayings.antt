@@ -1,9 +1,8 @@
 -- A replay in progress: a tenant's nodes after the records so far.
 use Rattle.std.specs.Prelude.{◌≡◌, ℕ, Bool, true, false, ◌⊎◌, Option, Some, None, List, IsTrue}
-use Rattle.cops_types.specs.declared.configs.Config.{Config}
 use Rattle.cops_types.specs.Counts.{counted}
 use Rattle.cops_types.specs.TenantConfig.{TenantConfig}
-use Rattle.cops_node.specs.Clusters.{Cluster, nodes_of}
+use Rattle.cops_model.specs.SoloNode.{SoloNode}
 use Rattle.cops_replay.specs.declared.layouts.Layout.{Layout}
 use Rattle.cops_replay.specs.declared.layouts.Layout.TheVariants.{Today, Early}
 use Rattle.cops_replay.specs.declared.Record.{Record}
@@ -11,25 +10,19 @@ use Rattle.cops_replay.specs.declared.Replayed.{Replayed}
 use Rattle.cops_replay.specs.declared.Replayed.TheVariants.{Same, FirstDifference}
 use Rattle.cops_replay.specs.Replaying.{Agrees, fresh_nodes, nodes_after}
 use Rattle.cops_replay.specs.AskedLines.{record_told}
-use Rattle.cops_replay.specs.Replays.{IsAlone, IsReplayed}
+use Rattle.cops_replay.specs.Replays.{AreLoneNodes, IsReplayed, Lone}
 use Rattle.cops_replay.specs.ReplayText.{told_of}
 
 -- the layout of the records, the nodes, the number of records that agreed, and the place of the first that does not
 pub record Standing : Type 0 where
   pub layout : Layout
-  pub nodes : Cluster
+  pub nodes : Lone
   pub passed : ℕ
   pub found : Option ℕ
 
--- the nodes are of a cluster with these sizes
-pub record HasSizesOf (config : Config) (nodes : Cluster) : Type 0 where
-  pub data_centres : nodes.shape.data_centres ≡ config.data_centres
-  pub shards : nodes.shape.shards ≡ config.shards
-
 -- no record has been replayed
 pub record IsBeforeRecords (config : TenantConfig) (replay : Standing) : Type 0 where
-  pub alone : IsAlone config replay.nodes
-  pub nodes_are : nodes_of config 0 replay.nodes ≡ fresh_nodes config
+  pub nodes_are : AreLoneNodes config replay.nodes (fresh_nodes config)
   pub passed_is : replay.passed ≡ 0
   pub found_is : replay.found ≡ None
 
@@ -38,31 +31,30 @@ abbrev pub MayAgree : Layout → List ℕ → Bool → Type 0
 MayAgree layout line true = told_of layout line ≡ record_told line
 MayAgree layout line false = told_of layout line ≡ None
 
--- the line is a record that agrees, and the cluster took its turn; or it is not
-abbrev pub IsLineReplayed : TenantConfig → List ℕ → Cluster → Bool → Cluster → Type 0
-IsLineReplayed config line old true new = (told : Record) × (record_told line ≡ Some told) × IsReplayed config told old true new
-IsLineReplayed config line old false new = (told : Record) → record_told line ≡ Some told → Agrees config told (nodes_of config 0 old) → ⊥
+-- the line is a record that agrees, and the nodes took its turn; or it is not
+abbrev pub IsLineReplayed : TenantConfig → List ℕ → List SoloNode → Bool → Lone → Type 0
+IsLineReplayed config line solos true new = (told : Record) × (record_told line ≡ Some told) × IsReplayed config told solos true new
+IsLineReplayed config line solos false new = (told : Record) → record_told line ≡ Some told → Agrees config told solos → ⊥
 
 -- the line's record agreed, and the nodes took its turn
-pub record Passes (config : TenantConfig) (line : List ℕ) (old new : Standing) : Type 0 where
+pub record Passes (config : TenantConfig) (line : List ℕ) (solos : List SoloNode) (old new : Standing) : Type 0 where
   pub told : Record
   pub told_is : told_of old.layout line ≡ Some told
-  pub agrees : Agrees config told (nodes_of config 0 old.nodes)
-  pub after : nodes_of config 0 new.nodes ≡ nodes_after config told (nodes_of config 0 old.nodes)
-  pub alone : IsAlone config new.nodes
+  pub agrees : Agrees config told solos
+  pub after : AreLoneNodes config new.nodes (nodes_after config told solos)
   pub passed_is : new.passed ≡ counted old.passed
   pub found_is : new.found ≡ None
 
 -- the line is no record that agrees, and this is its place
-pub record Differs (config : TenantConfig) (line : List ℕ) (old new : Standing) : Type 0 where
-  pub differs : (told : Record) → told_of old.layout line ≡ Some told → Agrees config told (nodes_of config 0 old.nodes) → ⊥
+pub record Differs (config : TenantConfig) (line : List ℕ) (solos : List SoloNode) (old new : Standing) : Type 0 where
+  pub differs : (told : Record) → told_of old.layout line ≡ Some told → Agrees config told solos → ⊥
   pub found_is : new.found ≡ Some (counted old.passed)
 
 -- one line was replayed; after a difference no line is
 pub record IsReplayedLine (line : List ℕ) (old new : Standing) : Type 0 where
   pub layout : new.layout ≡ old.layout
   pub over : (place : ℕ) → old.found ≡ Some place → new ≡ old
-  pub goes : old.found ≡ None → (config : TenantConfig) → IsAlone config old.nodes → Passes config line old new ⊎ Differs config line old new
+  pub goes : old.found ≡ None → (config : TenantConfig) (solos : List SoloNode) → AreLoneNodes config old.nodes solos → Passes config line solos old new ⊎ Differs config line solos old new
 
 -- the next record's place is recorded: one more has passed, or it is the first that differs
 abbrev pub IsRecordCounted : Bool → Standing → Standing → Type 0

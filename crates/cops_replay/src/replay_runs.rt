@@ -26,7 +26,8 @@ pub(crate) const TURNS: u64 = 4_294_967_296;
 /// first that is not. A file whose first line is not `layout 2` is read in layout 1.
 ///
 /// Skips lines of other tenants, and lines after a difference. Reads as `run_script` does, and
-/// holds the nodes and one line of at most 200,001 bytes.
+/// holds the nodes and one line of at most 200,001 bytes. The nodes count their calls in place of
+/// an audit, so beyond what they store memory does not grow with the records.
 ///
 /// Call it last in a program: the memory of the nodes stays allocated until the process ends.
 pub fn replay_text<R: Read, O: Write>(

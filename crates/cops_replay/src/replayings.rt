@@ -1,5 +1,5 @@
 //! A replay in progress.
-ghost use Rattle.std.specs.Prelude.{◌≡◌, ◌<◌, ℕ, Some, IfOk, IsTrue, OnOk, length, nat_le, slice_get};
+ghost use Rattle.std.specs.Prelude.{◌≡◌, ◌<◌, ℕ, List, Some, IfOk, IsTrue, OnOk, length, nat_le, slice_get};
 ghost use Rattle.std.specs.Option.{is_some};
 ghost use Rattle.cops_types.specs.declared.configs.Tenant.{Tenant};
 ghost use Rattle.cops_types.specs.HeadLines.{are_sizes};
@@ -7,17 +7,17 @@ ghost use Rattle.cops_types.specs.RequestErrors.{AnswersUnless};
 ghost use Rattle.cops_types.specs.TenantConfig.{TenantConfig, tenant_config};
 ghost use Rattle.cops_node.specs.Parts.{are_clocks};
 ghost use Rattle.cops_model.specs.MainTheorem.{with_tenant_alone};
+ghost use Rattle.cops_model.specs.SoloNode.{SoloNode};
 ghost use Rattle.cops_replay.specs.declared.layouts.Layout.TheVariants.{Early};
-ghost use Rattle.cops_replay.specs.Replays.{IsAlone};
+ghost use Rattle.cops_replay.specs.Replays.{AreLoneNodes};
 ghost use Rattle.cops_replay.specs.Replayings.{IsBeforeRecords, IsLineReplayed, IsRecordCounted, IsReplayedLine, MayAgree, found_of};
 ghost use Rattle.cops_replay.specs.ReplayText.{great_clock_of, longest_record};
 
 use crate::Replayed;
 use crate::layouts::{Layout, VersionSet};
+use crate::lone_nodes::LoneNodes;
 use crate::reading::{is_record, next_asked};
-use crate::replaying::{ask, with_tenant_alone};
 use crate::reply_texts::is_told;
-use cops_node::Cluster0;
 use cops_types::words::Words;
 use cops_types::{Config, Fault, RequestError};
 use std::alloc::{AllocError, Global};
@@ -31,8 +31,7 @@ pub(crate) const LONGEST_RECORD: usize = 200_000;
 #[derive(Drop)]
 pub struct Replay {
     layout: Layout,
-    alone: Config,
-    nodes: Cluster0,
+    nodes: LoneNodes,
     passed: u64,
     found: Option<u64>,
     /// Scratch space for the text of a reply.
@@ -40,13 +39,11 @@ pub struct Replay {
 }
 
 impl Model for Replay {
-    ghost use Rattle.cops_replay.specs.Replayings.{HasSizesOf, Standing};
+    ghost use Rattle.cops_replay.specs.Replayings.{Standing};
 
     ghost Value = { Standing };
 
     ghost view = { λ r. record { layout = r.layout; nodes = r.nodes; passed = r.passed; found = r.found } };
-
-    ghost invariant = { λ r. HasSizesOf r.alone r.nodes };
 }
 
 /// Returns `true` if a short line of layout 1 is a record that today's layout has too. Is refused
@@ -86,15 +83,12 @@ fn may_agree(alloc: Global, layout: Layout, line: &[u8]) -> Result<bool, Request
 /// reply is the one in the line. `place` is scratch space.
 fn agrees(
     alloc: Global,
-    nodes: &mut Cluster0,
-    config: &Config,
+    nodes: &mut LoneNodes,
     place: &mut Vec<u8>,
     line: &[u8],
 ) -> Result<bool, AllocError>
-    requires data_centres { nodes.old.shape.data_centres ≡ config.now.data_centres }
-    requires shards { nodes.old.shape.shards ≡ config.now.shards }
-    ensures replayed { IfOk result (λ agrees. (tenant : TenantConfig) → IsAlone tenant nodes.old → IsLineReplayed tenant line.now nodes.old agrees nodes.new) }
-    ensures shape { nodes.new.shape ≡ nodes.old.shape }
+    ensures { IfOk result (λ agrees. (config : TenantConfig) (solos : List SoloNode) →
+        AreLoneNodes config nodes.old solos → IsLineReplayed config line.now solos agrees nodes.new) }
 {
     let mut words = Words::of(line);
     let found = match next_asked(alloc, VersionSet::Layout2, &mut words) {
@@ -106,7 +100,7 @@ fn agrees(
         return Ok(false);
     };
     let (_name, asked) = found;
-    let Some(reply) = ask(nodes, config, asked)? else {
+    let Some(reply) = nodes.ask(asked)? else {
         return Ok(false);
     };
     let same = is_told(place, &reply, text)?;
@@ -127,11 +121,9 @@ impl Replay {
         ensures fresh { IfOk result (λ replay. (tenant : Tenant) → slice_get config.now.tenants slot ≡ Some tenant → IsBeforeRecords (tenant_config config.now tenant) replay) }
         ensures layout { IfOk result (λ replay. replay.layout ≡ layout) }
     {
-        let alone = with_tenant_alone(alloc, config, slot)?;
-        let nodes = Cluster0::new(alloc, &alone)?;
+        let nodes = LoneNodes::new(alloc, config, config.tenants.tenant(slot))?;
         Ok(Replay {
             layout,
-            alone,
             nodes,
             passed: 0,
             found: None,
@@ -151,12 +143,13 @@ impl Replay {
 
     /// Executes the call of a line again. Returns `true` if the line is a record that agrees.
     fn agrees(&mut self, alloc: Global, line: &[u8]) -> Result<bool, AllocError>
-        ensures replayed { IfOk result (λ agrees. (config : TenantConfig) → IsAlone config self.old.nodes → IsLineReplayed config line.now self.old.nodes agrees self.new.nodes) }
+        ensures replayed { IfOk result (λ agrees. (config : TenantConfig) (solos : List SoloNode) →
+            AreLoneNodes config self.old.nodes solos → IsLineReplayed config line.now solos agrees self.new.nodes) }
         ensures layout { self.new.layout ≡ self.old.layout }
         ensures passed { self.new.passed ≡ self.old.passed }
         ensures found { self.new.found ≡ self.old.found }
     {
-        agrees(alloc, &mut self.nodes, &self.alone, &mut self.place, line)
+        agrees(alloc, &mut self.nodes, &mut self.place, line)
     }
 
     /// Records whether the next record agreed.

@@ -3,12 +3,12 @@ use Rattle.cops_replay.specs.Replays.{IsReplied}
 use Rattle.cops_replay.proofs.ReplayLemmas.{compared, not_asked}
 use Rattle.cops_replay.proofs.replaying.agrees.Goals as goal
 
-pub returns-in_default-clause-replayed : goal.returns-in_default-clause-replayed
-returns-in_default-clause-replayed c = λ tenant alone.
-    not_asked tenant c.in_ok-asked.asked c.args.told.now c.args.nodes.now c.ask.new.nodes c.in_ok-asked.ensures
-    (subst (λ r. IsReplied tenant c.in_ok-asked.asked c.args.nodes.now r c.ask.new.nodes) c.in_default.is (c.in_ok-reply.ensures.replied tenant alone))
+pub returns-in_default : goal.returns-in_default
+returns-in_default c = λ config solos are.
+    not_asked config c.in_ok-asked.asked c.args.told.now solos c.ask.new.self c.in_ok-asked.ensures
+    (subst (λ r. IsReplied config c.in_ok-asked.asked solos r c.ask.new.self) c.in_default.is (c.in_ok-reply.ensures config solos are))
 
-pub returns-clause-replayed : goal.returns-clause-replayed
-returns-clause-replayed c = λ tenant alone.
-    compared tenant c.in_ok-asked.asked c.args.nodes.now c.ask.new.nodes c.in-Some.reply c.args.told.now c.eq.result c.in_ok-asked.ensures
-    (subst (λ r. IsReplied tenant c.in_ok-asked.asked c.args.nodes.now r c.ask.new.nodes) c.in-Some.is (c.in_ok-reply.ensures.replied tenant alone)) c.eq.ensures.exact
+pub returns : goal.returns
+returns c = λ config solos are.
+    compared config c.in_ok-asked.asked c.in-Some.reply solos c.ask.new.self c.args.told.now c.eq.result c.in_ok-asked.ensures
+    (subst (λ r. IsReplied config c.in_ok-asked.asked solos r c.ask.new.self) c.in-Some.is (c.in_ok-reply.ensures config solos are)) c.eq.ensures.exact

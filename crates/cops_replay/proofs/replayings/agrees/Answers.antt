@@ -3,25 +3,25 @@ use Rattle.cops_replay.specs.Replays.{IsReplied}
 use Rattle.cops_replay.proofs.AskedLines.{line_not_replied, line_replied, line_without_call, line_without_reply}
 use Rattle.cops_replay.proofs.replayings.agrees.Goals as goal
 
-pub returns-in-Err-Refused-clause-replayed : goal.returns-in-Err-Refused-clause-replayed
-returns-in-Err-Refused-clause-replayed c = λ tenant alone.
+pub returns-in-Err-Refused : goal.returns-in-Err-Refused
+returns-in-Err-Refused c = λ config solos are.
     let none = (rw c.in-Err-Refused.field-0-is at c.in-Err-Refused.ensures) in
-    line_without_call tenant c.args.line.now c.of-words.result c.args.nodes.now c.args.nodes.now c.of-words.ensures none.0
+    line_without_call config c.args.line.now c.of-words.result solos c.args.nodes.now c.of-words.ensures none.0
 
-pub returns-in_default-clause-replayed : goal.returns-in_default-clause-replayed
-returns-in_default-clause-replayed c = λ tenant alone.
-    line_without_reply tenant c.args.line.now c.of-words.result c.args.nodes.now c.args.nodes.now c.of-words.ensures c.in-Ok.found c.next_asked.new.words
+pub returns-in_default : goal.returns-in_default
+returns-in_default c = λ config solos are.
+    line_without_reply config c.args.line.now c.of-words.result solos c.args.nodes.now c.of-words.ensures c.in-Ok.found c.next_asked.new.words
     c.in-Ok.ensures c.in_default.ensures.none
 
-pub returns-in_default-2-clause-replayed : goal.returns-in_default-2-clause-replayed
-returns-in_default-2-clause-replayed c = λ tenant alone.
-    line_not_replied tenant c.args.line.now c.of-words.result c.args.nodes.now c.ask.new.nodes c.of-words.ensures c.in-Ok.found c.next_asked.new.words
+pub returns-in_default-2 : goal.returns-in_default-2
+returns-in_default-2 c = λ config solos are.
+    line_not_replied config c.args.line.now c.of-words.result solos c.ask.new.self c.of-words.ensures c.in-Ok.found c.next_asked.new.words
     c.in-Ok.ensures c.in-Some.text.now c.in-Some.ensures.some
-    (subst (λ r. IsReplied tenant c.in-Ok.found.1 c.args.nodes.now r c.ask.new.nodes) c.in_default-2.is (c.in_ok-reply.ensures.replied tenant alone))
+    (subst (λ r. IsReplied config c.in-Ok.found.1 solos r c.ask.new.self) c.in_default-2.is (c.in_ok-reply.ensures config solos are))
 
-pub returns-clause-replayed : goal.returns-clause-replayed
-returns-clause-replayed c = λ tenant alone.
-    line_replied tenant c.args.line.now c.of-words.result c.args.nodes.now c.ask.new.nodes c.of-words.ensures c.in-Ok.found c.next_asked.new.words
+pub returns : goal.returns
+returns c = λ config solos are.
+    line_replied config c.args.line.now c.of-words.result solos c.ask.new.self c.of-words.ensures c.in-Ok.found c.next_asked.new.words
     c.in-Ok.ensures c.in-Some.text.now c.in-Some.ensures.some
     c.in-Some-2.reply c.in_ok-same.same
-    (subst (λ r. IsReplied tenant c.in-Ok.found.1 c.args.nodes.now r c.ask.new.nodes) c.in-Some-2.is (c.in_ok-reply.ensures.replied tenant alone)) c.in_ok-same.ensures
+    (subst (λ r. IsReplied config c.in-Ok.found.1 solos r c.ask.new.self) c.in-Some-2.is (c.in_ok-reply.ensures config solos are)) c.in_ok-same.ensures

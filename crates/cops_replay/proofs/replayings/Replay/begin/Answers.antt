@@ -1,33 +1,21 @@
-use Rattle.std.proofs.Common.{sym, subst, ap}
-use Rattle.std.specs.Prelude.{IsTrue}
-use Rattle.cops_types.specs.declared.configs.Config.{Config}
-use Rattle.cops_types.specs.HeadLines.{are_sizes}
-use Rattle.cops_node.specs.Clusters.{Cluster}
-use Rattle.cops_node.specs.Parts.{are_clocks}
-use Rattle.cops_replay.proofs.ReplayLemmas.{tenant_at}
-use Rattle.cops_replay.proofs.ReplayingLemmas.{fresh_replay}
+use Rattle.std.proofs.Common.{◌≡◌, ◌∙◌, ◌∷◌, [], refl, subst, sym}
+use Rattle.std.specs.Prelude.{Some}
+use Rattle.cops_types.specs.declared.configs.Tenant.{Tenant}
+use Rattle.cops_types.specs.TenantConfig.{tenant_config}
+use Rattle.cops_replay.specs.Replaying.{fresh_nodes}
+use Rattle.cops_replay.specs.Replays.{AreLoneNodes}
+use Rattle.cops_replay.proofs.ReplayLemmas.{clock_at}
 use Rattle.cops_replay.proofs.replayings.Replay.begin.Goals as goal
 
-pub new-requires-clause-sizes : goal.new-requires-clause-sizes
-new-requires-clause-sizes c =
-    let config = c.args.config.now in
-    let at = tenant_at config.tenants c.args.slot c.requires.slot in
-    subst (λ (k : Config). IsTrue (are_sizes k)) (sym (c.in_ok-alone.ensures at.0 at.1)) c.requires.sizes
-
-pub new-requires-clause-clocks : goal.new-requires-clause-clocks
-new-requires-clause-clocks c =
-    let config = c.args.config.now in
-    let at = tenant_at config.tenants c.args.slot c.requires.slot in
-    subst (λ (k : Config). IsTrue (are_clocks k)) (sym (c.in_ok-alone.ensures at.0 at.1)) (c.requires.clocks at.0 at.1)
-
-pub invariant_of-result : goal.invariant_of-result
-invariant_of-result c =
-    let at = tenant_at c.args.config.now.tenants c.args.slot c.requires.slot in
-    let new = c.in_ok-nodes.ensures.nodes in
-    (record {
-      data_centres = ap (λ (k : Cluster). k.shape.data_centres) new;
-      shards = ap (λ (k : Cluster). k.shape.shards) new;
-    })
+pub new-requires-clause-clock : goal.new-requires-clause-clock
+new-requires-clause-clock c = clock_at (c.tenant.result.now ∷ []) 0 c.tenant.result.now (c.requires.clocks c.tenant.result.now c.tenant.ensures) refl
 
 pub returns-clause-fresh : goal.returns-clause-fresh
-returns-clause-fresh c = λ tenant e. fresh_replay c.args.layout c.args.config.now c.in_ok-alone.alone tenant c.in_ok-nodes.nodes (c.in_ok-alone.ensures tenant e) c.in_ok-nodes.ensures.nodes c.in_ok-nodes.ensures.tenants c.in_ok-nodes.ensures.fresh
+returns-clause-fresh c = λ tenant at.
+    let some : Some c.tenant.result.now ≡ Some tenant = sym c.tenant.ensures ∙ at in
+    let same : c.tenant.result.now ≡ tenant = cc in
+    (record {
+      nodes_are = subst (λ (t : Tenant). AreLoneNodes (tenant_config c.args.config.now t) c.in_ok-nodes.nodes (fresh_nodes (tenant_config c.args.config.now t))) same c.in_ok-nodes.ensures;
+      passed_is = refl;
+      found_is = refl;
+    })
