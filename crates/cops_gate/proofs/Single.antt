@@ -1,5 +1,5 @@
 -- A gate of one machine: what a history of one node says.
-use Rattle.std.proofs.Common.{◌≡◌, ℕ, eqb, cond, true, false, ◌+◌, ◌^◌, ◌≤◌, [], ◌∷◌, List, length, ap, sym, refl, ◌∙◌, subst, Option, Some, None, Result, Ok, Err, IfOk, IfSome}
+use Rattle.std.proofs.Common.{arith, ◌≡◌, ℕ, eqb, cond, true, false, ◌+◌, ◌^◌, ◌≤◌, [], ◌∷◌, List, length, ap, sym, refl, ◌∙◌, subst, Option, Some, None, Result, Ok, Err, IfOk, IfSome}
 use lib.ListN.{get_elem?}
 use Rattle.cops_gate.specs.declared.board.Account.{Account}
 use Rattle.cops_gate.specs.declared.history.Entry.{Entry}
@@ -10,9 +10,16 @@ use Rattle.cops_gate.specs.Plays.{HasRoom}
 use Rattle.cops_gate.specs.Rule.{AreDistinctNumbers, Met}
 use Rattle.cops_gate.specs.Accounts.{IsComplete}
 use Rattle.cops_gate.specs.Seats.{AreMadeBy, ClosesWith, GateHome, Known, Origin}
-use Rattle.cops_gate.specs.Single.{ClosesAlone, SingleOrigin, single_home}
+use Rattle.cops_gate.specs.Single.{ClosesAlone, SingleOrigin, only, single_home}
 use Rattle.cops_gate.proofs.Filtering.{of_at, turns_are_of_one_node}
 use Rattle.cops_gate.proofs.Histories.{node_parts}
+
+module _ {M : Type 0} where
+  -- a list of one has its only item
+  pub only_is : (xs : List M) (one : length xs ≡ 1) → xs ≡ only xs one ∷ []
+  only_is [] none = absurd (omega arith)
+  only_is (x ∷ []) one = refl
+  only_is (x ∷ y ∷ ys) more = absurd (omega arith)
 
 module _ {C R : Type 0} where
   pub starts_there : (log seen : List (Turn C R)) → StartsWith log seen → StartsWith (turns_at 0 log) (turns_at 0 seen)

@@ -1,10 +1,16 @@
 -- A gate of one machine and its seats, as callers see them: a gate of a cluster with one node.
-use Rattle.std.specs.Prelude.{◌≡◌, ℕ, ◌+◌, ◌^◌, [], ◌∷◌, List, length}
+use Rattle.std.specs.Prelude.{◌≡◌, ◌==◌, ℕ, ◌+◌, ◌^◌, [], ◌∷◌, List, length}
+use Rattle.std.proofs.Common.{ap, true≢false}
 use Rattle.atomic_table.specs.Seated.{TableId}
 use Rattle.cops_gate.specs.declared.history.Turn.{Turn}
 use Rattle.cops_gate.specs.History.{turns_of, StartsWith, Leads}
 use Rattle.cops_gate.specs.Rule.{Met}
 use Rattle.cops_gate.specs.Seats.{GateHome, HasAllTurns, Known, Origin, gate_home}
+
+-- the item of a list of one
+abbrev pub only : {M : Type 0} → (xs : List M) → length xs ≡ 1 → M
+only [] none = absurd (true≢false (ap (λ n. n == 0) none))
+only (x ∷ xs) one = x
 
 -- the identity of a gate, the state that it opened with, and the number of its first ticket
 pub record SingleOrigin (M : Type 0) : Type 0 where

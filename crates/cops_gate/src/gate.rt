@@ -8,13 +8,12 @@ ghost use Rattle.cops_gate.specs.History.{entry, turns_at, turns_of, IsLegal, St
 ghost use Rattle.cops_gate.specs.Rule.{Met};
 ghost use Rattle.cops_gate.specs.Accounts.{fork_of};
 ghost use Rattle.cops_gate.specs.Seats.{Known, first_seat, split_off};
-ghost use Rattle.cops_gate.specs.Single.{ClosesAlone, SingleOrigin, as_cluster, single_home};
+ghost use Rattle.cops_gate.specs.Single.{ClosesAlone, SingleOrigin, as_cluster, only, single_home};
 
 use crate::cluster_gate::{ClusterGate, ClusterSeat};
 use cops_types::{Machine, RequestError};
 use std::alloc::{AllocError, AllocFailed, Global};
 use std::marker::Model;
-use std::snapshot::Snapshot;
 use std::sync::Wait;
 
 /// A machine behind a gate. Contracts see the identity of the gate, and the state that it opened
@@ -22,15 +21,15 @@ use std::sync::Wait;
 #[derive(Drop)]
 pub struct Gate<M: Machine> {
     cluster: ClusterGate<M>,
-    opening: Snapshot<M>,
+    // So the view has the opening state. With a field that is a snapshot of it, the prover would not
+    // find that threads may share a gate.
+    ghost one: { length cluster.opening ≡ 1 },
 }
 
 impl<M: Machine> Model for Gate<M> {
     ghost Value = { SingleOrigin M };
 
-    ghost view = { λ g. record { table = g.cluster.table; opening = g.opening.value; ticket = g.cluster.ticket } };
-
-    ghost invariant = { λ g. g.cluster.opening ≡ g.opening.value ∷ [] };
+    ghost view = { λ g. record { table = g.cluster.table; opening = only g.cluster.opening g.one; ticket = g.cluster.ticket } };
 }
 
 /// The right to make turns at a gate. Contracts see its number, the history that it has seen,
@@ -70,10 +69,9 @@ impl<M: Machine> Gate<M> {
             Ok(machines) => machines,
             Err(AllocError) => return Err(AllocFailed { value: state }),
         };
-        let opening = Snapshot::of(&state);
         machines.push_reserved(state);
         match ClusterGate::open_at(alloc, machines, ticket) {
-            Ok((cluster, seat)) => Ok((Gate { cluster, opening }, GateSeat { seat })),
+            Ok((cluster, seat)) => Ok((Gate { cluster }, GateSeat { seat })),
             Err(AllocFailed { value }) => Err(AllocFailed {
                 value: only_machine(value),
             }),
@@ -142,10 +140,7 @@ impl<M: Machine + Drop> Gate<M> {
         ensures history { IfSome result (λ m. ClosesAlone M.turns self seat m) }
         ensures place { IfSome result (λ m. M.place m ≡ M.place self.opening) }
     {
-        let Gate {
-            cluster,
-            opening: _,
-        } = self;
+        let Gate { cluster } = self;
         let GateSeat { seat } = seat;
         cluster.close_only(seat)
     }

@@ -1,7 +1,7 @@
-ghost use Rattle.std.specs.Prelude.{◌≡◌, ◌+◌, ◌^◌, ◌≤◌, ◌⊎◌, ℕ, IfOk, IfSome, length};
-ghost use Rattle.cops_gate.specs.Seats.{gate_home};
+ghost use Rattle.std.specs.Prelude.{◌≡◌, ◌+◌, ◌^◌, ◌≤◌, ◌⊎◌, ℕ, IfSome};
+ghost use Rattle.cops_gate.specs.Single.{single_home};
 
-use crate::{ClusterGate, ClusterSeat, Gate};
+use crate::{Gate, GateSeat};
 use cops_types::{Fault, Machine, RequestError};
 use std::alloc::{AllocError, Global};
 use std::process::Abort;
@@ -133,15 +133,6 @@ fn two_seats_meet(rt: HostRuntime) -> Result<(), Fail> {
     Ok(())
 }
 
-// Returns one counter.
-fn one(alloc: Global) -> Result<Vec<Counter>, AllocError>
-    ensures { IfOk result (λ v. length v.items ≡ 1) }
-{
-    let mut all = Vec::with_capacity(alloc, 1)?;
-    all.push_reserved(Counter { count: 0 });
-    Ok(all)
-}
-
 // The number of turns of each thread.
 const TURNS: usize = 100;
 
@@ -149,44 +140,44 @@ const TURNS: usize = 100;
 fn go<R: Wait>(
     rt: &R,
     alloc: Global,
-    gate: &ClusterGate<Counter>,
-    mut seat: ClusterSeat<Counter>,
+    gate: &Gate<Counter>,
+    mut seat: GateSeat<Counter>,
     ask: Ask,
-) -> Option<(Vec<u64>, ClusterSeat<Counter>)>
-    requires { (seat.gate ≡ gate_home gate.now) × (length gate.now.opening ≡ 1) }
-    ensures { IfSome result (λ r. r.1.gate ≡ gate_home gate.now) }
+) -> Option<(Vec<u64>, GateSeat<Counter>)>
+    requires { seat.gate ≡ single_home gate.now }
+    ensures { IfSome result (λ r. r.1.gate ≡ single_home gate.now) }
 {
     let mut replies = Vec::new(alloc);
     for _ in 0..TURNS {
-        let reply = gate.step(rt, &mut seat, 0, 0, 0, ask).ok()?;
+        let reply = gate.step(rt, &mut seat, 0, 0, ask).ok()?;
         replies.push(reply).ok()?;
     }
     Some((replies, seat))
 }
 
-type Made = Option<(Vec<u64>, ClusterSeat<Counter>)>;
+type Made = Option<(Vec<u64>, GateSeat<Counter>)>;
 
 // Two threads make turns, each with a seat.
 fn go_both<R: Threads + Wait + Sync>(
     rt: &R,
     alloc: Global,
-    gate: &ClusterGate<Counter>,
-    first: ClusterSeat<Counter>,
-    second: ClusterSeat<Counter>,
+    gate: &Gate<Counter>,
+    first: GateSeat<Counter>,
+    second: GateSeat<Counter>,
     ask: Ask,
 ) -> (Made, Made)
-    requires { (first.gate ≡ gate_home gate.now) × (second.gate ≡ gate_home gate.now) × (length gate.now.opening ≡ 1) }
-    ensures { IfSome result.0 (λ r. r.1.gate ≡ gate_home gate.now) × IfSome result.1 (λ r. r.1.gate ≡ gate_home gate.now) }
+    requires { (first.gate ≡ single_home gate.now) × (second.gate ≡ single_home gate.now) }
+    ensures { IfSome result.0 (λ r. r.1.gate ≡ single_home gate.now) × IfSome result.1 (λ r. r.1.gate ≡ single_home gate.now) }
 {
     join(
         rt,
         || -> Made
-            requires { (first.gate ≡ gate_home gate.now) × (length gate.now.opening ≡ 1) }
-            ensures { IfSome result (λ r. r.1.gate ≡ gate_home gate.entry.now) }
+            requires { first.gate ≡ single_home gate.now }
+            ensures { IfSome result (λ r. r.1.gate ≡ single_home gate.entry.now) }
         { go(rt, alloc, gate, first, ask) },
         || -> Made
-            requires { (second.gate ≡ gate_home gate.now) × (length gate.now.opening ≡ 1) }
-            ensures { IfSome result (λ r. r.1.gate ≡ gate_home gate.entry.now) }
+            requires { second.gate ≡ single_home gate.now }
+            ensures { IfSome result (λ r. r.1.gate ≡ single_home gate.entry.now) }
         { go(rt, alloc, gate, second, ask) },
     )
 }
@@ -194,7 +185,7 @@ fn go_both<R: Threads + Wait + Sync>(
 #[test]
 fn two_threads_take_turns(rt: HostRuntime) -> Result<(), Fail> {
     let alloc = rt.alloc();
-    let Ok((gate, mut first)) = ClusterGate::open(alloc, one(alloc)?) else {
+    let Ok((gate, mut first)) = Gate::first(alloc, Counter { count: 0 }) else {
         panic!(rt; "no memory")
     };
     let second = gate.split(&mut first);
@@ -211,9 +202,10 @@ fn two_threads_take_turns(rt: HostRuntime) -> Result<(), Fail> {
         assert!(rt; all[i as usize] == i + 1);
     }
     gate.meet(&mut second, &mut first);
-    let room = Vec::with_capacity(alloc, 1)?;
-    let left = gate.close(first, room);
-    assert!(rt; matches!(&left[0], Some(machine) if machine.count == 200));
+    let Some(left) = gate.close(first) else {
+        panic!(rt; "a turn was under way")
+    };
+    assert!(rt; left.count == 200);
     Ok(())
 }
 
@@ -221,21 +213,21 @@ fn two_threads_take_turns(rt: HostRuntime) -> Result<(), Fail> {
 fn go_four<R: Threads + Wait + Sync>(
     rt: &R,
     alloc: Global,
-    gate: &ClusterGate<Counter>,
-    mut first: ClusterSeat<Counter>,
-    mut third: ClusterSeat<Counter>,
+    gate: &Gate<Counter>,
+    mut first: GateSeat<Counter>,
+    mut third: GateSeat<Counter>,
 ) -> ((Made, Made), (Made, Made))
-    requires { (first.gate ≡ gate_home gate.now) × (third.gate ≡ gate_home gate.now) × (length gate.now.opening ≡ 1) }
+    requires { (first.gate ≡ single_home gate.now) × (third.gate ≡ single_home gate.now) }
 {
     let second = gate.split(&mut first);
     let fourth = gate.split(&mut third);
     join(
         rt,
         || -> (Made, Made)
-            requires { (first.gate ≡ gate_home gate.now) × (second.gate ≡ gate_home gate.now) × (length gate.now.opening ≡ 1) }
+            requires { (first.gate ≡ single_home gate.now) × (second.gate ≡ single_home gate.now) }
         { go_both(rt, alloc, gate, first, second, Ask::Linger) },
         || -> (Made, Made)
-            requires { (third.gate ≡ gate_home gate.now) × (fourth.gate ≡ gate_home gate.now) × (length gate.now.opening ≡ 1) }
+            requires { (third.gate ≡ single_home gate.now) × (fourth.gate ≡ single_home gate.now) }
         { go_both(rt, alloc, gate, third, fourth, Ask::Linger) },
     )
 }
@@ -253,7 +245,7 @@ fn add(rt: &impl Abort, all: &mut Vec<u64>, made: Made) -> Result<(), Fail> {
 #[test]
 fn those_who_sleep_are_woken(rt: HostRuntime) -> Result<(), Fail> {
     let alloc = rt.alloc();
-    let Ok((gate, mut last)) = ClusterGate::open(alloc, one(alloc)?) else {
+    let Ok((gate, mut last)) = Gate::first(alloc, Counter { count: 0 }) else {
         panic!(rt; "no memory")
     };
     let first = gate.split(&mut last);
@@ -269,8 +261,9 @@ fn those_who_sleep_are_woken(rt: HostRuntime) -> Result<(), Fail> {
     for i in 0..4 * TURNS {
         assert!(rt; all[i] == i as u64 + 1);
     }
-    let room = Vec::with_capacity(alloc, 1)?;
-    let left = gate.close(last, room);
-    assert!(rt; matches!(&left[0], Some(machine) if machine.count == 4 * TURNS as u64));
+    let Some(left) = gate.close(last) else {
+        panic!(rt; "a turn was under way")
+    };
+    assert!(rt; left.count == 4 * TURNS as u64);
     Ok(())
 }

@@ -8,18 +8,18 @@ use Rattle.counting_gate.specs.declared.counter.Ask.{Ask}
 use Rattle.counting_gate.specs.declared.counter.Counter.{Counter}
 use Rattle.counting_gate.specs.Counts.{counts}
 
-abbrev T : Type 0
+abbrev pub T : Type 0
 T = Turn Ask ℕ
 
-abbrev one : Option (Entry Ask ℕ) → ℕ
+abbrev pub one : Option (Entry Ask ℕ) → ℕ
 one None = 0
 one (Some e) = 1
 
-abbrev answered : List T → ℕ
+abbrev pub answered : List T → ℕ
 answered [] = 0
 answered (t ∷ ts) = one t.entry + answered ts
 
-answered-append : (xs ys : List T) → answered (xs ++ ys) ≡ answered xs + answered ys
+pub answered-append : (xs ys : List T) → answered (xs ++ ys) ≡ answered xs + answered ys
 answered-append [] ys = omega arith
 answered-append (t ∷ ts) ys = let h = answered-append ts ys in omega arith
 
@@ -32,7 +32,7 @@ sums_to : (a b : Counter) (xs : List T) → Leads counts a xs b → b.count ≡ 
 sums_to a b [] l = let same : a.count ≡ b.count = ap (λ (x : Counter). x.count) l in omega arith
 sums_to a b (t ∷ xs) l = let up = counted a l.0 t.entry l.1 in let later = sums_to l.0 b xs l.2 in omega arith
 
-last_reply : (a b : Counter) (xs : List T) (n : ℕ) (e : Entry Ask ℕ) → Leads counts a (xs ++ turn n 0 (Some e) ∷ []) b → e.reply ≡ a.count + answered xs + 1
+pub last_reply : (a b : Counter) (xs : List T) (n : ℕ) (e : Entry Ask ℕ) → Leads counts a (xs ++ turn n 0 (Some e) ∷ []) b → e.reply ≡ a.count + answered xs + 1
 last_reply a b [] n e l = let up = l.1.0 in let says = l.1.1 in omega arith
 last_reply a b (t ∷ xs) n e l = let later = last_reply l.0 b xs n e l.2 in let up = counted a l.0 t.entry l.1 in omega arith
 
