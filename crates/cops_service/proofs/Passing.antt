@@ -2,15 +2,15 @@
 use Rattle.std.proofs.Common.{ℕ, zero, suc, ◌≡◌, ◌+◌, ◌-◌, ◌<◌, ◌≤◌, ◌==◌, Bool, true, false, List, [], ◌∷◌, length, take, drop, if◌then◌else◌, refl, ap, sym, ◌∙◌, min, ne_eqb, subst, get_or, le_of_eq, take_all, length-drop, arith}
 use Rattle.std.proofs.Math.Nat.{sub-zero}
 use Rattle.cops_service.specs.declared.tallies.Tally.{Tally}
-use Rattle.cops_service.specs.Tallies.{after, counted, passed, seen, skipped}
+use Rattle.cops_service.specs.Tallies.{after, measured, entered, seen, skipped}
 
 -- a byte that stands in a body is skipped
-in_body : (b : ℕ) (tally : Tally) → 0 < tally.left → (if tally.left == 0 then counted b tally else skipped b tally) ≡ skipped b tally
-in_body b tally some = ap (λ v. if v then counted b tally else skipped b tally) (ne_eqb tally.left 0 (omega arith))
+in_body : (b : ℕ) (tally : Tally) → 0 < tally.left → (if tally.left == 0 then measured b tally else skipped b tally) ≡ skipped b tally
+in_body b tally some = ap (λ v. if v then measured b tally else skipped b tally) (ne_eqb tally.left 0 (omega arith))
 
 -- behind the first byte of a body each byte only takes one from its length
 untagged : (b : ℕ) (tally : Tally) → tally.is_tag ≡ false → skipped b tally ≡ record tally { left = tally.left - 1 }
-untagged b tally tag = ap (λ v. record (if v then passed b tally else tally) { left = tally.left - 1 }) tag
+untagged b tally tag = ap (λ v. record (if v then entered b tally else tally) { left = tally.left - 1 }) tag
 
 -- bytes of a body behind its first
 skips : (k : ℕ) (tally : Tally) (bytes : List ℕ) → tally.is_tag ≡ false → k ≤ tally.left → k ≤ length bytes →
@@ -20,20 +20,20 @@ skips (suc k) tally [] tag left fits = absurd (omega arith)
 skips (suc k) tally (b ∷ bytes) tag left fits =
     let one : Tally = record tally { left = tally.left - 1 } in
     let same : tally.left - suc k ≡ tally.left - 1 - k = omega arith in
-    let here : (if tally.left == 0 then counted b tally else skipped b tally) ≡ one = in_body b tally (omega arith) ∙ untagged b tally tag in
+    let here : (if tally.left == 0 then measured b tally else skipped b tally) ≡ one = in_body b tally (omega arith) ∙ untagged b tally tag in
     ap (λ n. after (record tally { left = n }) (drop k bytes)) same
     ∙ skips k one bytes tag (omega arith) (omega arith)
     ∙ ap (λ t. after t bytes) (sym here)
 
 -- what has seen a byte of a body sees no first byte in the others
 seen_untagged : (b : ℕ) (v : Bool) (tally : Tally) → tally.is_tag ≡ v → (seen b tally).is_tag ≡ false
-seen_untagged b true tally tag = ap (λ w. (if w then passed b tally else tally).is_tag) tag
-seen_untagged b false tally tag = ap (λ w. (if w then passed b tally else tally).is_tag) tag ∙ tag
+seen_untagged b true tally tag = ap (λ w. (if w then entered b tally else tally).is_tag) tag
+seen_untagged b false tally tag = ap (λ w. (if w then entered b tally else tally).is_tag) tag ∙ tag
 
 -- a body's length stays when its first byte is seen
 seen_left : (b : ℕ) (v : Bool) (tally : Tally) → tally.is_tag ≡ v → (seen b tally).left ≡ tally.left
-seen_left b true tally tag = ap (λ w. (if w then passed b tally else tally).left) tag
-seen_left b false tally tag = ap (λ w. (if w then passed b tally else tally).left) tag
+seen_left b true tally tag = ap (λ w. (if w then entered b tally else tally).left) tag
+seen_left b false tally tag = ap (λ w. (if w then entered b tally else tally).left) tag
 
 -- the present part of a body
 pub skips_part : (tally : Tally) (b : ℕ) (bytes : List ℕ) (k : ℕ) → 0 < k → k ≤ tally.left → k ≤ length (b ∷ bytes) →

@@ -1,6 +1,6 @@
 //! Counts of frames.
 ghost use Rattle.std.specs.Prelude.{◌≡◌, ◌<◌, false, length};
-ghost use Rattle.cops_service.specs.Tallies.{after, counted, seen};
+ghost use Rattle.cops_service.specs.Tallies.{after, measured, seen};
 
 /// The tag of a refusal.
 const REFUSED: u8 = 0xff;
@@ -73,7 +73,7 @@ impl Tally {
 
     // Passes a byte of a length.
     fn take_length(&mut self, byte: u8)
-        ensures { self.new ≡ counted byte self.old }
+        ensures { self.new ≡ measured byte self.old }
     {
         self.length = self.length.wrapping_mul(256).wrapping_add(u32::from(byte));
         self.head = self.head.wrapping_add(1);
