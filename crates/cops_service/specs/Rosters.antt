@@ -4,10 +4,13 @@ use Rattle.std.specs.Option.{option_map}
 use Rattle.cops_types.specs.declared.configs.Config.{Config}
 use Rattle.cops_types.specs.declared.configs.Tenant.{Tenant}
 use Rattle.cops_types.specs.declared.faults.Fault.{Fault}
-use Rattle.cops_types.specs.declared.faults.Fault.TheVariants.{NoSlot}
+use Rattle.cops_types.specs.declared.faults.Fault.TheVariants.{NoSlot, UnknownTenant}
 use Rattle.cops_types.specs.declared.request_errors.RequestError.{RequestError}
 use Rattle.cops_types.specs.declared.request_errors.RequestError.TheVariants.{OutOfMemory, Refused}
 use Rattle.cops_types.specs.OpenSlots.{admission_refusal, begun_with, open_slot_of_token}
+use Rattle.cops_types.specs.RequestErrors.{fault_told}
+use Rattle.cops_model.specs.declared.replies.HostReply.{HostReply}
+use Rattle.cops_model.specs.declared.replies.HostReply.TheVariants.{Admitted, Closed, Denied}
 use Rattle.cops_node.specs.Parts.{MOST_SLOTS}
 use Rattle.cops_model.specs.Setups.{next_slot}
 use Rattle.cops_service.specs.declared.roster.Life.{Life}
@@ -66,3 +69,19 @@ abbrev pub IsNotAdmitted : Gates Hosted → Roster → Tenant → RequestError �
 IsNotAdmitted cluster roster tenant error old new =
     (IsRefusedHere roster tenant error × (new ≡ old))
     ⊎ ((roster_refusal roster tenant ≡ None) × IsNotKept cluster roster tenant error old new)
+
+-- ---- the replies to the host's lines
+
+-- The reply to an admission: the tenant has the least free slot, at all nodes, in a new life; or why nothing was done
+abbrev pub IsAdmissionTold : Gates Hosted → Tenant → Roster → HostedSeat → HostReply → Roster → HostedSeat → Type 0
+IsAdmissionTold cluster tenant old seat (Admitted name) new new_seat =
+    (name ≡ tenant.name) × (life : Life) × BeginsLife life tenant old new × IsAdmittedAtAll cluster life.slot life.number tenant seat new_seat
+IsAdmissionTold cluster tenant old seat (Denied fault) new new_seat =
+    (error : RequestError) × (fault ≡ fault_told error) × IsNotAdmitted cluster old tenant error seat new_seat × (new.tenants ≡ old.tenants) × (new.lives ≡ old.lives)
+IsAdmissionTold cluster tenant old seat (Closed name) new new_seat = ⊥
+
+-- The reply to a close, if this slot has the tenant of that name
+abbrev pub IsCloseTold : Gates Hosted → List ℕ → Option ℕ → Roster → HostedSeat → HostReply → Roster → HostedSeat → Type 0
+IsCloseTold cluster name None old seat reply new new_seat = (reply ≡ Denied UnknownTenant) × (new ≡ old) × (new_seat ≡ seat)
+IsCloseTold cluster name (Some slot) old seat reply new new_seat =
+    (reply ≡ Closed name) × (new.tenants ≡ slice_set old.tenants slot None) × IsClosedAtAll cluster slot seat new_seat

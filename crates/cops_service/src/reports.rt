@@ -1,6 +1,7 @@
 //! A service's reports to its operator.
 ghost use Rattle.cops_service.specs.Ends.{IsCause, IsCauseOf};
 
+use cops_model::HostReply;
 use cops_types::{Fault, RequestError};
 use cops_wire::Ended;
 use std::net::SocketAddr;
@@ -31,6 +32,12 @@ pub trait Reports {
     fn accepts_again(&self, failures: u64);
 }
 
+/// Gets the replies to the host's lines, in the order of the lines.
+pub trait HostReports {
+    /// Gets the reply to a line.
+    fn told(&self, reply: &HostReply);
+}
+
 /// Ignores all reports.
 #[derive(Clone, Copy)]
 pub struct Silent;
@@ -39,6 +46,10 @@ impl Reports for Silent {
     fn ended(&self, _peer: &SocketAddr, _cause: Cause) {}
 
     fn accepts_again(&self, _failures: u64) {}
+}
+
+impl HostReports for Silent {
+    fn told(&self, _reply: &HostReply) {}
 }
 
 /// How a connection went, beside the result of `Connection::converse`.

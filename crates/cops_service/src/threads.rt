@@ -31,7 +31,7 @@ use cops_types::{Config, RequestError};
 use cops_wire::{Ended, Moments};
 use crossbeam_channel::Receiver;
 use std::alloc::{AllocError, Global};
-use std::net::TcpListener;
+use std::net::{SocketAddr, TcpListener};
 use std::sync::Wait;
 use std::thread;
 use std::thread::{PromisedHandle, Threads};
@@ -102,13 +102,21 @@ fn serve_stream<R: Clock, L: Reports, N: Nodes, T: Moments>(
     // (closing reads on, so what the client did until then is asked first)
     let course = line.course();
     line.close();
-    conclude(shared, accepted, line.tally(), course, &ended);
+    conclude(
+        shared.totals,
+        shared.reports,
+        &accepted.peer,
+        line.tally(),
+        course,
+        &ended,
+    );
 }
 
-// Counts a connection that has ended, and reports it if it didn't end cleanly.
-fn conclude<R: Clock, L: Reports>(
-    shared: Shared<'_, R, L>,
-    accepted: &Accepted,
+/// Counts a connection that has ended, and reports it if it didn't end cleanly.
+pub(crate) fn conclude<L: Reports>(
+    totals: &Totals,
+    reports: &L,
+    peer: &SocketAddr,
     tally: Tally,
     course: Course,
     ended: &Result<Ended, RequestError>,
@@ -118,12 +126,12 @@ fn conclude<R: Clock, L: Reports>(
     let others = if is_torn { 2 } else { 1 };
     let is_greeting_refused = tally.frames == 1 && tally.refusals == 1;
     let other_refusals = if is_torn || is_greeting_refused { 1 } else { 0 };
-    shared.totals.add(
+    totals.add(
         tally.frames.saturating_sub(others),
         tally.refusals.saturating_sub(other_refusals),
     );
     if let Some(cause) = cause_of(ended, course) {
-        shared.reports.ended(&accepted.peer, cause);
+        reports.ended(peer, cause);
     }
 }
 

@@ -9,12 +9,12 @@ returns-in_default-came g c =
     record {
       shape = c.deliver.ensures.shape ∙ (c.loop.invariant.0 ∙ sym c.requires.shape);
       slot = both g.N.Nodes.Answers c.args.stream.now.from.slot c.args.nodes.now c.loop.nodes c.deliver.new.nodes c.loop.invariant.1 c.deliver.ensures.slot;
-      carries = carried_on g.N.Nodes.Answers c.args.config.now c.args.nodes.now c.loop.nodes c.deliver.new.nodes c.loop.invariant.2 (c.args.stream.now, told_delivery c.deliver.result, c.requires.stream, c.deliver.ensures.delivers);
+      carries = λ is. carried_on g.N.Nodes.Answers c.args.config.now c.args.nodes.now c.loop.nodes c.deliver.new.nodes (c.loop.invariant.2 is) (c.args.stream.now, told_delivery c.deliver.result, is, c.deliver.ensures.delivers);
     }
 
 pub loop-preserved : goal.loop-preserved
 loop-preserved g c = (
   c.deliver.ensures.shape ∙ c.loop.invariant.0,
   both g.N.Nodes.Answers c.args.stream.now.from.slot c.args.nodes.now c.loop.nodes c.deliver.new.nodes c.loop.invariant.1 c.deliver.ensures.slot,
-  carried_on g.N.Nodes.Answers c.args.config.now c.args.nodes.now c.loop.nodes c.deliver.new.nodes c.loop.invariant.2 (c.args.stream.now, told_delivery c.deliver.result, c.requires.stream, c.deliver.ensures.delivers),
+  λ is. carried_on g.N.Nodes.Answers c.args.config.now c.args.nodes.now c.loop.nodes c.deliver.new.nodes (c.loop.invariant.2 is) (c.args.stream.now, told_delivery c.deliver.result, is, c.deliver.ensures.delivers),
 )

@@ -1,0 +1,5 @@
+use Rattle.cops_service.proofs.host_threads.fn.serve_hosted.scope+FnOnce.call_once.Goals as goal
+
+-- what the threads' bounds ask, and then what the closure asks
+pub scope-requires : goal.scope-requires
+scope-requires g c = let asked = c.requires.1.1.1 in (asked.1.0, (asked.1.1, (asked.1.2, asked.0)))

@@ -1,0 +1,100 @@
+//! Lines of the host, from the thread that reads them to the one that follows them.
+use cops_types::{Name, Tenant};
+use std::alloc::{AllocError, Global};
+use std::mem;
+use std::sync::{Condvar, Mutex, Wait};
+
+/// The most lines that wait. A thread that adds another waits for room.
+const MOST_WAITING: usize = 64;
+
+/// The meaning of a line of the host.
+#[derive(Clone, Copy, Debug)]
+pub enum HostLine {
+    /// Admits a tenant.
+    Admit(Tenant),
+    /// Closes the tenant of this name.
+    Close(Name),
+    /// Has no form.
+    Unknown,
+    /// Asks for the end of the service.
+    End,
+}
+
+#[derive(Drop)]
+struct Waiting {
+    lines: Vec<HostLine>,
+    is_over: bool,
+}
+
+impl Waiting {
+    fn is_full(&self) -> bool {
+        self.lines.len() >= self.lines.capacity()
+    }
+
+    // Adds a line, if there is room.
+    fn push(&mut self, line: HostLine) {
+        if self.lines.len() < self.lines.capacity() {
+            self.lines.push_reserved(line);
+        }
+    }
+}
+
+/// Lines of the host that wait to be followed, in order.
+#[derive(Drop)]
+pub struct HostLines {
+    waiting: Mutex<Waiting>,
+    changed: Condvar,
+}
+
+impl HostLines {
+    /// Returns an empty list. Fails with `AllocError` if memory runs out.
+    pub fn new(alloc: Global) -> Result<Self, AllocError> {
+        let lines = Vec::with_capacity(alloc, MOST_WAITING)?;
+        Ok(HostLines {
+            waiting: Mutex::new(Waiting {
+                lines,
+                is_over: false,
+            }),
+            changed: Condvar::new(),
+        })
+    }
+
+    /// Adds a line, once there is room. Ignores it if the service no longer follows lines.
+    pub fn push<R: Wait>(&self, rt: &R, line: HostLine) {
+        let locked = self.waiting.lock(rt);
+        let mut waiting = self.changed.wait_while(
+            rt,
+            locked,
+            |waiting| waiting.is_full() && !waiting.is_over,
+        );
+        if !waiting.is_over {
+            waiting.push(line);
+        }
+        drop(waiting);
+        self.changed.notify_all();
+    }
+
+    /// Waits for lines, and moves all of them into this empty list. Returns `false` if none will follow.
+    pub(crate) fn take<R: Wait>(&self, rt: &R, taken: &mut Vec<HostLine>) -> bool {
+        let locked = self.waiting.lock(rt);
+        let mut waiting = self.changed.wait_while(rt, locked, |waiting| {
+            waiting.lines.is_empty() && !waiting.is_over
+        });
+        mem::swap(&mut waiting.lines, taken);
+        let goes_on = !waiting.is_over;
+        drop(waiting);
+        self.changed.notify_all();
+        goes_on
+    }
+
+    /// Returns an empty list with room for all lines that may wait.
+    pub(crate) fn room(&self, alloc: Global) -> Result<Vec<HostLine>, AllocError> {
+        Vec::with_capacity(alloc, MOST_WAITING)
+    }
+
+    /// Ends the wait of the thread that takes lines. Lines that come later are ignored.
+    pub(crate) fn end<R: Wait>(&self, rt: &R) {
+        self.waiting.lock(rt).is_over = true;
+        self.changed.notify_all();
+    }
+}

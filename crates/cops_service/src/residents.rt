@@ -1,0 +1,75 @@
+//! The tenants that clients may be greeted as.
+use crate::roster::Life;
+use cops_types::{Config, Tenant};
+use std::alloc::{AllocError, Global};
+use std::sync::{Mutex, Wait};
+
+/// The most tenants at once.
+const MOST_RESIDENTS: usize = 64;
+
+/// A tenant that all nodes have, in a life of its slot.
+#[derive(Clone, Copy)]
+pub(crate) struct Resident {
+    pub(crate) life: Life,
+    pub(crate) tenant: Tenant,
+}
+
+/// The tenants that clients may be greeted as. The host enters a tenant once all nodes have it, and removes it before the
+/// first node loses it. A lock is held for one look-up or one change. No call allocates.
+#[derive(Drop)]
+pub(crate) struct Residents {
+    residents: Mutex<Vec<Resident>>,
+}
+
+// Enters a tenant, if there is room.
+fn enter(residents: &mut Vec<Resident>, resident: Resident) {
+    if residents.len() < residents.capacity() {
+        residents.push_reserved(resident);
+    }
+}
+
+impl Residents {
+    /// Returns the tenants of a configuration, in their slots' lives 0.
+    pub(crate) fn of(alloc: Global, config: &Config) -> Result<Self, AllocError> {
+        let mut residents = Vec::with_capacity(alloc, MOST_RESIDENTS)?;
+        let tenants = config.tenants.as_slice();
+        for place in 0..tenants.len() {
+            let life = Life {
+                slot: place as u64,
+                number: 0,
+            };
+            enter(
+                &mut residents,
+                Resident {
+                    life,
+                    tenant: tenants[place],
+                },
+            );
+        }
+        Ok(Residents {
+            residents: Mutex::new(residents),
+        })
+    }
+
+    /// Enters a tenant that all nodes have.
+    pub(crate) fn enter<R: Wait>(&self, rt: &R, resident: Resident) {
+        enter(&mut self.residents.lock(rt), resident);
+    }
+
+    /// Removes the tenant of this name.
+    pub(crate) fn leave<R: Wait>(&self, rt: &R, name: &[u8]) {
+        self.residents
+            .lock(rt)
+            .retain(|resident| resident.tenant.name.bytes() != name);
+    }
+
+    /// Returns the tenant with this token.
+    pub(crate) fn find<R: Wait>(&self, rt: &R, token: &[u8; 16]) -> Option<Resident> {
+        for resident in self.residents.lock(rt).as_slice() {
+            if resident.tenant.token.as_bytes() == token {
+                return Some(*resident);
+            }
+        }
+        None
+    }
+}
