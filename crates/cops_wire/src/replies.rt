@@ -10,6 +10,7 @@ ghost use Rattle.cops_wire.specs.Requests.{are_counted, is_counted, is_one_frame
 ghost use Rattle.cops_wire.specs.Spelling.{body_of, link_of, outcome_of, spelled_key, spelled_value, spelled_version, spelling};
 ghost use Rattle.cops_wire.specs.declared.messages.Message.{Message};
 
+use crate::first_frames::LONGEST_BODY;
 use crate::placed::{put_key, put_number_16, put_number_32, put_value, put_version};
 use crate::writing::{
     push_key, push_number_8, push_number_16, push_refusal, push_value, push_version,
@@ -19,9 +20,6 @@ use cops_session::Answer;
 use cops_types::placed::put_byte;
 use cops_types::{Fault, Key, OwnedDeps, Pair, Read, ShortPair, Version};
 use std::alloc::AllocError;
-
-/// The greatest length of a body.
-const LONGEST_BODY: usize = 4_000_000;
 
 /// The most bytes of a pair: a key's length, the key and a version.
 const LONGEST_PAIR: usize = 73;
