@@ -1,7 +1,6 @@
 -- A gate of a cluster and its seats, as callers see them.
-use Rattle.std.specs.Prelude.{◌≡◌, ◌⊎◌, ℕ, ◌+◌, ◌*◌, ◌^◌, ◌<◌, List, [], ◌∷◌, ◌++◌, length, Option, Some, None, Result, Ok, IfOk, OnErr}
+use Rattle.std.specs.Prelude.{◌≡◌, ℕ, ◌+◌, ◌*◌, ◌^◌, ◌<◌, List, [], ◌∷◌, ◌++◌, length, Option, Some}
 use Rattle.std.specs.List.{AllByRecursion}
-use Rattle.std.specs.declared.alloc.AllocError.{AllocError}
 use mathlib.Core.Option.{some}
 use lib.ListN.{get_elem?}
 use Rattle.atomic_table.specs.Seated.{TableId}
@@ -10,7 +9,7 @@ use Rattle.cops_gate.specs.declared.board.Opening.{Opening}
 use Rattle.cops_gate.specs.declared.history.Entry.{Entry}
 use Rattle.cops_gate.specs.declared.history.Turn.{Turn}
 use Rattle.cops_gate.specs.Accounts.{IsComplete, first_of, forked, joined_with}
-use Rattle.cops_gate.specs.History.{turns_of, turns_at, entry, StartsWith, Leads, Grows, LeavesLacking}
+use Rattle.cops_gate.specs.History.{turns_of, turns_at, StartsWith, Leads, Grows}
 use Rattle.cops_gate.specs.Rule.{AreDistinctNumbers, Met}
 
 -- the identity of a gate, the states that its nodes opened with, and the number of their first tickets
@@ -67,15 +66,6 @@ HasAllTurns log seat = IsComplete seat.account → (log ≡ seat.history) × Are
 -- the seat has made one turn more at this node, a no-op turn if there is no entry
 abbrev pub Extends : {M C R : Type 0} → (M → ℕ → ℕ → C → R → M → Type 0) → List M → ℕ → Known M C R → Option (Entry C R) → Known M C R → Type 0
 Extends turns states node old e new = Grows turns states old.number node old.history e new.history
-
--- The outcome of a call at a node, if `spent` is the reply for exhausted tickets. Either that is the reply, the history stays, and the seat has met
--- 2^62 there; or the machine made a turn, a no-op turn if memory ran out. A seat that has met 2^62 there makes none
-abbrev pub IsToldOrSpent : {M C R : Type 0} → (M → ℕ → ℕ → C → R → M → Type 0) → (M → ℕ → C → Type 0) → List M → R → ℕ → ℕ → ℕ → C → Known M C R → Known M C R → Result R AllocError → Type 0
-IsToldOrSpent turns may_lack states spent node slot moment call old new told =
-    (told ≡ Ok spent) × (new.history ≡ old.history) × (new.spent ≡ node ∷ old.spent)
-    ⊎ (Met node old.spent → ⊥) × (new.spent ≡ old.spent)
-    × IfOk told (λ reply. Extends turns states node old (Some (entry slot moment call reply)) new)
-    × OnErr told (Extends turns states node old None new × LeavesLacking turns may_lack states old.number node slot call new.history)
 
 -- One history has all that the seat has seen as a prefix, and no other turn of it. The turns at each node leave the machine that is returned.
 -- If the seat has met the ticket word at 2^62 there, each ticket below that had its turn. A node at which the seat met it exists

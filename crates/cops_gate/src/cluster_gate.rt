@@ -13,11 +13,10 @@ ghost use Rattle.cops_gate.specs.History.{entry, turns_of, StartsWith, IsWhole, 
 ghost use Rattle.cops_gate.specs.Rule.{Met};
 ghost use Rattle.cops_gate.specs.Plays.{HasRoom, IsTableFor};
 ghost use Rattle.cops_gate.specs.Accounts.{fork_of};
-ghost use Rattle.cops_gate.specs.Seats.{AreAtRest, ClosesWith, Extends, HasAllOf, IsAtRest, IsToldOrSpent, Known, Origin, all_joined, all_spent, first_seat, gate_home, joined_by, split_off};
+ghost use Rattle.cops_gate.specs.Seats.{AreAtRest, ClosesWith, Extends, HasAllOf, IsAtRest, Known, Origin, all_joined, all_spent, first_seat, gate_home, joined_by, split_off};
 
 use crate::board::{Beginning, Board, BoardSeat};
 use crate::meetings::{end, fork, hear, learn, note};
-use crate::spent::{SpentReply, tell_spent};
 use crate::turns::{draw, serve, wait};
 use crate::waiting::Sleepers;
 use atomic_table::{Closed, Refused, Table};
@@ -105,6 +104,7 @@ impl<M: Machine> ClusterGate<M> {
     }
 
     /// Makes one turn at a node, after the turns of earlier tickets there.
+    #[inline(always)]
     pub fn step<R: Wait>(
         &self,
         rt: &R,
@@ -149,46 +149,6 @@ impl<M: Machine> ClusterGate<M> {
             Ok(reply) => Ok(reply),
             Err(error) => Err(RequestError::from(error)),
         }
-    }
-
-    /// Makes one turn as `step` does, but returns `S`'s reply if the node's tickets are exhausted.
-    /// Fails with `AllocError` only if memory runs out.
-    #[inline(always)]
-    pub fn step_or_reply<R: Wait, S: SpentReply<M::Reply>>(
-        &self,
-        rt: &R,
-        seat: &mut ClusterSeat<M>,
-        node: usize,
-        slot: u64,
-        moment: u64,
-        call: M::Call,
-    ) -> Result<M::Reply, AllocError>
-        requires seat { seat.old.gate ≡ gate_home self.now }
-        requires node { node < length self.now.opening }
-        requires fits { (first : M) → get_elem? self.now.opening node ≡ some first → M.fits (M.place first) slot call }
-        ensures same { (seat.new.gate ≡ seat.old.gate) × (seat.new.number ≡ seat.old.number) }
-        ensures account { seat.new.account ≡ seat.old.account }
-        ensures told { IsToldOrSpent M.turns M.may_lack self.now.opening S.told node slot moment call seat.old seat.new result }
-        ensures room { HasRoom seat.new.gate.opening seat.new.history }
-    {
-        let sleepers = &self.sleepers[node];
-        let found = draw(rt, &self.board, sleepers, &mut seat.place, node);
-        let Some(ticket) = found else {
-            return tell_spent::<M::Call, M::Reply, S>(call);
-        };
-        let drawn = Snapshot::of(&seat.place);
-        wait(rt, &self.board, sleepers, &mut seat.place, node, ticket);
-        serve(
-            &self.board,
-            sleepers,
-            &mut seat.place,
-            node,
-            drawn,
-            ticket,
-            slot,
-            moment,
-            call,
-        )
     }
 
     /// Returns the number of nodes.

@@ -13,7 +13,6 @@ mod laws;
 mod meetings;
 mod note;
 mod plays;
-mod spent;
 #[cfg(test)]
 mod tests;
 mod turns;
@@ -23,4 +22,3 @@ pub use cluster_gate::{ClusterGate, ClusterSeat};
 pub use gate::{Gate, GateSeat};
 pub use history::{Entry, Turn};
 pub use laws::{histories_are_of_each_node, histories_are_runs_of_the_cluster};
-pub use spent::SpentReply;

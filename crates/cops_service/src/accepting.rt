@@ -1,5 +1,5 @@
 //! Accepts connections and hands them to workers.
-ghost use Rattle.std.specs.Prelude.{◌≡◌, ◌*◌, ◌^◌, ◌↔◌, ◌⊎◌, Some, min, IsTrue};
+ghost use Rattle.std.specs.Prelude.{◌≡◌, ◌*◌, ◌^◌, ◌↔◌, ◌⊎◌, Some, min, IfErr, IsTrue};
 ghost use Rattle.std.specs.IoError.{raw_os_error};
 
 use crate::reports::Reports;
@@ -83,7 +83,9 @@ fn accept<R: Wait + Clock, L: Reports>(
     listener: &TcpListener,
     stop: &Stop,
     reports: &L,
-) -> Result<Accepted, ServiceEnd> {
+) -> Result<Accepted, ServiceEnd>
+    ensures { IfErr result (λ end. (end ≡ ServiceEnd.Done) ⊎ (end ≡ ServiceEnd.ListenerFailed)) }
+{
     let mut failures: u64 = 0;
     for _ in rt.forever() {
         let accepted = listener.accept();
@@ -133,7 +135,10 @@ pub(crate) fn accept_each<R: Wait + Clock, L: Reports>(
     stop: &Stop,
     grace: u64,
     reports: &L,
-) -> ServiceEnd {
+) -> ServiceEnd
+    ensures accepted { (result ≡ ServiceEnd.Done) ⊎ (result ≡ ServiceEnd.ListenerFailed) }
+    ensures none { connections ≡ 0 → result ≡ ServiceEnd.Done }
+{
     for _ in 0..connections {
         match accept(rt, listener, stop, reports) {
             Ok(accepted) => hand_on(rt, accepted, &to, stop, grace),

@@ -3,6 +3,8 @@
 //! The C library grows the heap of each thread but the first by single pages. Each page takes a system call, during which
 //! all threads that touch a new page wait. Allocating and freeing a large block grows the heap by the whole block at once.
 //! Its pages aren't touched, so resident memory stays the same.
+ghost use Rattle.std.specs.Prelude.{◌≡◌, ◌-◌, ◌<◌};
+
 use std::alloc::Global;
 
 // A thread reserves once in this many node calls.
@@ -20,13 +22,18 @@ pub(crate) struct Ahead {
 
 impl Ahead {
     /// Returns a counter that reserves at the first call.
-    pub(crate) fn new(alloc: Global) -> Ahead {
+    pub(crate) fn new(alloc: Global) -> Ahead
+        ensures { result.left ≡ 0 }
+    {
         Ahead { alloc, left: 0 }
     }
 
     /// Counts a call. Ignores a failed reservation: the call that needs memory asks for it again.
     #[inline(always)]
-    pub(crate) fn count(&mut self) {
+    pub(crate) fn count(&mut self)
+        ensures reserves { self.old.left ≡ 0 → self.new.left ≡ CALLS - 1 }
+        ensures counts { 0 < self.old.left → self.new.left ≡ self.old.left - 1 }
+    {
         if self.left == 0 {
             ask(self.alloc);
             self.left = CALLS;

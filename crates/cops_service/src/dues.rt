@@ -1,6 +1,9 @@
 //! When each tenant's part of a node is due for garbage collection.
-ghost use Rattle.std.specs.Prelude.{◌≡◌, ◌≢◌, ◌+◌, ◌-◌, ◌*◌, ◌<◌, ◌≤◌, ◌↔◌, ◌⊎◌, None, false, true, min, IsSomeAnd, IsTrue};
+ghost use Rattle.std.specs.Prelude.{◌≡◌, ◌≢◌, ◌+◌, ◌-◌, ◌*◌, ◌/◌, ◌%◌, ◌^◌, ◌<◌, ◌≤◌, ◌↔◌, ◌⊎◌, [], None, false, true, min, slice_get, slice_set, IfOk, IfNone, IfSome, IsSomeAnd, IsTrue};
 ghost use Rattle.std.specs.Duration.{as_nanos};
+ghost use Rattle.std.specs.Vec.{vec_capacity, vec_len};
+ghost use Rattle.cops_service.specs.Noted.{place_number};
+ghost use Rattle.cops_service.specs.Dueness.{IsVisited, due_in_life};
 
 use crate::notes::{Noted, Notes, Sizes, TenantNode, Visit};
 use cops_types::Config;
@@ -141,7 +144,13 @@ impl Dues {
         config: &Config,
         sizes: Sizes,
         places: usize,
-    ) -> Result<Self, AllocError> {
+    ) -> Result<Self, AllocError>
+        ensures places { IfOk result (λ dues. vec_len dues.dues ≡ places) }
+        ensures none { IfOk result (λ dues. (dues.kept.items ≡ []) × (dues.next ≡ NEVER)) }
+        ensures room { IfOk result (λ dues. places ≤ vec_capacity dues.kept) }
+        ensures trans_time { IfOk result (λ dues. dues.trans_time ≡ config.now.trans_time) }
+        ensures sizes { IfOk result (λ dues. dues.sizes ≡ sizes) }
+    {
         let none = Due::none(0);
         Ok(Dues {
             sizes,
@@ -153,7 +162,13 @@ impl Dues {
     }
 
     /// Records that a version came at the place, or was refused by quota.
-    pub(crate) fn note(&mut self, visit: &Visit, now: u64) {
+    pub(crate) fn note(&mut self, visit: &Visit, now: u64)
+        ensures next { self.new.next ≤ self.old.next }
+        ensures visited { let number = place_number self.old.sizes visit.now.place % 2 ^ 64 in
+            IfSome (slice_get self.old.dues.items number) (λ due. IsSomeAnd
+            (slice_get self.new.dues.items number)
+            (IsVisited visit.now.at_once now self.old.trans_time (due_in_life visit.now.place.life due))) }
+    {
         let number = visit.place.number(self.sizes) as usize;
         self.forget_earlier(&visit.place);
         let Some(due) = self.dues.get_mut(number) else {
@@ -174,7 +189,15 @@ impl Dues {
     }
 
     // Forgets the place if something is due there of another life.
-    fn forget_earlier(&mut self, place: &TenantNode) {
+    fn forget_earlier(&mut self, place: &TenantNode)
+        ensures next { self.new.next ≡ self.old.next }
+        ensures settings { (self.new.sizes ≡ self.old.sizes) × (self.new.trans_time ≡ self.old.trans_time) }
+        ensures forgotten { let number = place_number self.old.sizes place.now % 2 ^ 64 in
+            IfSome (slice_get self.old.dues.items number) (λ due. self.new.dues.items
+            ≡ slice_set self.old.dues.items number (due_in_life place.now.life due)) }
+        ensures none { let number = place_number self.old.sizes place.now % 2 ^ 64 in
+            IfNone (slice_get self.old.dues.items number) (self.new.dues.items ≡ self.old.dues.items) }
+    {
         let sizes = self.sizes;
         let number = place.number(sizes);
         let Some(due) = self.dues.get_mut(number as usize) else {
@@ -200,7 +223,9 @@ impl Dues {
     }
 
     /// Lists the places that are due or to be collected at once. The list must be empty, with room for all.
-    pub(crate) fn ready(&self, now: u64, ready: &mut Vec<TenantNode>) {
+    pub(crate) fn ready(&self, now: u64, ready: &mut Vec<TenantNode>)
+        ensures { now < self.now.next → ready.new.items ≡ ready.old.items }
+    {
         if now < self.next {
             return;
         }
@@ -212,13 +237,22 @@ impl Dues {
     }
 
     // Returns `true` if the place is due or to be collected at once.
-    fn is_ready(&self, place: &TenantNode, now: u64) -> bool {
+    fn is_ready(&self, place: &TenantNode, now: u64) -> bool
+        ensures ready { IsTrue result → IsSomeAnd
+            (slice_get self.now.dues.items (place_number self.now.sizes place.now % 2 ^ 64))
+            (λ due. IsTrue due.is_asked ⊎ (due.at ≤ now)) }
+        ensures only { IfSome
+            (slice_get self.now.dues.items (place_number self.now.sizes place.now % 2 ^ 64))
+            (λ due. IsTrue due.is_asked ⊎ (due.at ≤ now) → IsTrue result) }
+    {
         let due = self.dues.get(place.number(self.sizes) as usize);
         due.is_some_and(|due| due.is_ready(now))
     }
 
     /// Records a collection of the place at this time. A refused one is tried again after `AGAIN`.
-    pub(crate) fn collected(&mut self, place: &TenantNode, time: u64, came: Collected) {
+    pub(crate) fn collected(&mut self, place: &TenantNode, time: u64, came: Collected)
+        ensures { (self.new.kept.items ≡ self.old.kept.items) × (self.new.next ≡ self.old.next) }
+    {
         let Some(due) = self.dues.get_mut(place.number(self.sizes) as usize) else {
             return;
         };
@@ -281,7 +315,13 @@ pub(crate) struct Collecting {
 
 impl Collecting {
     /// Returns a state in which nothing is due.
-    pub(crate) fn new(alloc: Global, config: &Config, notes: &Notes) -> Result<Self, AllocError> {
+    pub(crate) fn new(alloc: Global, config: &Config, notes: &Notes) -> Result<Self, AllocError>
+        ensures empty { IfOk result (λ work. (work.visits.items ≡ []) × (work.places.items ≡ [])) }
+        ensures visits { IfOk result (λ work. vec_len notes.now.grown.are_listed ≤ vec_capacity work.visits) }
+        ensures places { IfOk result (λ work. vec_capacity work.visits ≤ vec_capacity work.places) }
+        ensures dues { IfOk result (λ work. vec_len work.dues.dues ≡ vec_capacity work.visits / 2) }
+        ensures none { IfOk result (λ work. work.dues.next ≡ NEVER) }
+    {
         let visits = notes.grown.room(alloc)?;
         let places = Vec::with_capacity(alloc, visits.capacity())?;
         let dues = Dues::new(alloc, config, notes.sizes, visits.capacity() / 2)?;
@@ -293,7 +333,9 @@ impl Collecting {
     }
 
     /// Records the work items that were taken, and lists the places to collect now.
-    pub(crate) fn sort(&mut self, now: u64) {
+    pub(crate) fn sort(&mut self, now: u64)
+        ensures { self.new.visits.items ≡ [] }
+    {
         for visit in self.visits.as_slice() {
             self.dues.note(visit, now);
         }

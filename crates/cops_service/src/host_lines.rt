@@ -1,4 +1,7 @@
 //! Lines of the host, from the thread that reads them to the one that follows them.
+ghost use Rattle.std.specs.Prelude.{◌≡◌, ◌<◌, ◌≤◌, ◌↔◌, ◌++◌, ◌∷◌, [], IfOk, IsTrue};
+ghost use Rattle.std.specs.Vec.{vec_capacity, vec_len};
+
 use cops_types::{Name, Tenant};
 use std::alloc::{AllocError, Global};
 use std::mem;
@@ -27,12 +30,20 @@ struct Waiting {
 }
 
 impl Waiting {
-    fn is_full(&self) -> bool {
+    fn is_full(&self) -> bool
+        ensures { IsTrue result ↔ (vec_capacity self.now.lines ≤ vec_len self.now.lines) }
+    {
         self.lines.len() >= self.lines.capacity()
     }
 
     // Adds a line, if there is room.
-    fn push(&mut self, line: HostLine) {
+    fn push(&mut self, line: HostLine)
+        ensures added { vec_len self.old.lines < vec_capacity self.old.lines →
+            self.new.lines.items ≡ self.old.lines.items ++ line ∷ [] }
+        ensures full { vec_capacity self.old.lines ≤ vec_len self.old.lines →
+            self.new.lines.items ≡ self.old.lines.items }
+        ensures over { self.new.is_over ≡ self.old.is_over }
+    {
         if self.lines.len() < self.lines.capacity() {
             self.lines.push_reserved(line);
         }
@@ -88,7 +99,10 @@ impl HostLines {
     }
 
     /// Returns an empty list with room for all lines that may wait.
-    pub(crate) fn room(&self, alloc: Global) -> Result<Vec<HostLine>, AllocError> {
+    pub(crate) fn room(&self, alloc: Global) -> Result<Vec<HostLine>, AllocError>
+        ensures empty { IfOk result (λ room. room.items ≡ []) }
+        ensures room { IfOk result (λ room. MOST_WAITING ≤ vec_capacity room) }
+    {
         Vec::with_capacity(alloc, MOST_WAITING)
     }
 

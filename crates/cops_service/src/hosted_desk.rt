@@ -1,26 +1,24 @@
 //! A thread's access to nodes at which tenants come and go.
 ghost use Rattle.std.specs.Prelude.{◌≡◌, ◌<◌};
-ghost use Rattle.cops_service.specs.Gates.{IsSeatOf};
+ghost use Rattle.cops_node.specs.declared.hosted.SlotReply.TheVariants.{Refused};
+ghost use Rattle.cops_service.specs.Gates.{IsSeatOf, told_by};
 ghost use Rattle.cops_service.specs.HostedDesks.{AreHosted, FitsThere, IsLifeCall, IsSlotCall, hosted_shape, told_at_slot};
 
 use crate::cluster::{Cluster, ServiceSeat};
-use cops_gate::SpentReply;
 use cops_node::{HostedNode, NodeCall, NodeId, NodeReply, Nodes, SlotCall, SlotReply};
-use cops_types::Fault;
+use cops_types::{Fault, RequestError};
 use std::alloc::AllocError;
 use std::sync::Wait;
 
-/// Refuses a call if a node's tickets are exhausted.
-pub(crate) struct RefusesSpent;
-
-impl SpentReply<SlotReply> for RefusesSpent {
-    ghost use Rattle.cops_types.specs.declared.faults.Fault.TheVariants.{GateSpent};
-    ghost use Rattle.cops_node.specs.declared.hosted.SlotReply.TheVariants.{Refused};
-
-    ghost told = { Refused GateSpent };
-
-    fn reply() -> SlotReply {
-        SlotReply::Refused(Fault::GateSpent)
+/// Returns the reply of a step. A refusal by the gate is one by the node. Fails with `AllocError` if memory ran out.
+#[inline(always)]
+pub(crate) fn reply_of(answer: Result<SlotReply, RequestError>) -> Result<SlotReply, AllocError>
+    ensures { result ≡ told_by Refused answer }
+{
+    match answer {
+        Ok(reply) => Ok(reply),
+        Err(RequestError::Refused(fault)) => Ok(SlotReply::Refused(fault)),
+        Err(RequestError::OutOfMemory) => Err(AllocError),
     }
 }
 
@@ -66,8 +64,10 @@ impl<'a, R: Wait> HostedDesk<'a, R> {
         ensures seat { self.new.seat.ghost_name ≡ self.old.seat.ghost_name }
         ensures told { IsSlotCall self.old.cluster.now self.old.seat.now id slot moment call (told_at_slot result) self.new.seat.now }
     {
-        self.seat
-            .step_or_reply::<R, RefusesSpent>(self.rt, self.cluster, id, slot, moment, call)
+        reply_of(
+            self.seat
+                .step(self.rt, self.cluster, id, slot, moment, call),
+        )
     }
 }
 

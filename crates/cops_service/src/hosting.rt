@@ -10,7 +10,7 @@ ghost use Rattle.cops_node.specs.Hosting.{FitsSlot};
 ghost use Rattle.cops_service.specs.Gates.{openings};
 ghost use Rattle.cops_service.specs.HostedDesks.{IsAdmittedAtAll, IsClosedAtAll, IsClosedAtFirst, IsHostCall, IsRefusal, IsTakenBack, told_at_slot};
 
-use crate::hosted_desk::{HostedDesk, RefusesSpent};
+use crate::hosted_desk::{HostedDesk, reply_of};
 use cops_node::{SlotCall, SlotReply};
 use cops_types::{Fault, RequestError, Tenant};
 use std::alloc::AllocError;
@@ -25,8 +25,10 @@ impl<R: Wait> HostedDesk<'_, R> {
         ensures seat { self.new.seat.ghost_name ≡ self.old.seat.ghost_name }
         ensures told { IsHostCall self.old.cluster.now slot call number (told_at_slot result) self.old.seat.now self.new.seat.now }
     {
-        self.seat
-            .turn_at::<R, RefusesSpent>(self.rt, self.cluster, number, slot, 0, call)
+        reply_of(
+            self.seat
+                .turn_at(self.rt, self.cluster, number, slot, 0, call),
+        )
     }
 
     // Gives the slot to the tenant at the node of this number.

@@ -1,5 +1,5 @@
 //! A client's socket, with limits of time.
-ghost use Rattle.std.specs.Prelude.{◌≡◌, ◌≢◌, ◌-◌, ◌*◌, ◌^◌, ◌↔◌, ◌⊎◌, min, IfSome, IsTrue};
+ghost use Rattle.std.specs.Prelude.{◌≡◌, ◌≢◌, ◌-◌, ◌*◌, ◌^◌, ◌↔◌, ◌⊎◌, min, IfSome, IsFalse, IsTrue};
 ghost use Rattle.std.specs.IoError.{error_kind};
 ghost use Rattle.std.specs.Io.{ReadsAtMost, WritesAtMost};
 
@@ -54,12 +54,11 @@ pub(crate) struct Line<'a, C: Clock> {
 
 impl<'a, C: Clock> Line<'a, C> {
     /// Wraps a socket whose client may take `idle` seconds to send a frame, or to take a reply; 0 is no limit.
-    pub(crate) fn new(
-        clock: &'a C,
-        stream: &'a TcpStream,
-        stop: &'a Stop,
-        idle: u64,
-    ) -> Line<'a, C> {
+    pub(crate) fn new(clock: &'a C, stream: &'a TcpStream, stop: &'a Stop, idle: u64) -> Line<'a, C>
+        ensures limit { result.limit ≡ min (idle * 1000) (2 ^ 64 - 1) }
+        ensures no_limit { idle ≡ 0 → result.grace ≡ GRACE }
+        ensures grace { idle ≢ 0 → result.grace ≡ result.limit }
+    {
         // Without Nagle's algorithm a reply goes out at once. If that can't be set, the client waits a little longer.
         let _ = stream.set_nodelay(true);
         let tick = Some(Duration::from_millis(TICK));
@@ -98,7 +97,9 @@ impl<'a, C: Clock> Line<'a, C> {
     }
 
     // Returns `true` if the client's time that began then is over.
-    fn is_over(&self, since: u64) -> bool {
+    fn is_over(&self, since: u64) -> bool
+        ensures { self.now.limit ≡ 0 → IsFalse result }
+    {
         if self.limit == 0 {
             return false;
         }

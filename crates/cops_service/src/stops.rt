@@ -1,5 +1,5 @@
 //! An orderly end of a service.
-ghost use Rattle.std.specs.Prelude.{◌≡◌, ◌-◌, ◌/◌, ◌^◌, min};
+ghost use Rattle.std.specs.Prelude.{◌≡◌, ◌-◌, ◌/◌, ◌^◌, None, min, IfOk, IsSome};
 ghost use Rattle.std.specs.Duration.{as_nanos};
 
 use std::io;
@@ -22,7 +22,9 @@ pub struct Stop {
 
 impl Stop {
     /// Returns a stop that nobody can ask for.
-    pub fn never() -> Stop {
+    pub fn never() -> Stop
+        ensures { result.listener ≡ None }
+    {
         Stop {
             asked: AtomicU64::new(NOT_ASKED),
             listener: None,
@@ -30,7 +32,9 @@ impl Stop {
     }
 
     /// Returns a stop for the service that listens here. Fails if the process may open no more descriptors.
-    pub fn of(listener: &TcpListener) -> io::Result<Stop> {
+    pub fn of(listener: &TcpListener) -> io::Result<Stop>
+        ensures { IfOk result (λ stop. IsSome stop.listener) }
+    {
         let socket = OwnedFd::from(listener.try_clone()?);
         Ok(Stop {
             asked: AtomicU64::new(NOT_ASKED),

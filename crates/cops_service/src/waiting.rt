@@ -1,6 +1,9 @@
 //! Streams whose head could not be carried, until their next try.
-ghost use Rattle.std.specs.Prelude.{◌≡◌, ◌≢◌, ◌-◌, ◌*◌, ◌^◌, None, max, min, IsSomeAnd};
+ghost use Rattle.std.specs.Prelude.{◌≡◌, ◌≢◌, ◌-◌, ◌*◌, ◌%◌, ◌^◌, ◌<◌, ◌≤◌, [], None, false, max, min, slice_get, slice_set, IfNone, IfOk, IfSome, IsSomeAnd};
 ghost use Rattle.std.specs.Duration.{as_nanos};
+ghost use Rattle.std.specs.Vec.{vec_capacity, vec_len};
+ghost use Rattle.cops_service.specs.Dueness.{WaitsLonger, pause_in_life};
+ghost use Rattle.cops_service.specs.Noted.{stream_number};
 
 use crate::dues::rest_until;
 use crate::notes::{Noted, Notes, Sizes, Stream};
@@ -37,7 +40,13 @@ pub(crate) struct Waiting {
 
 impl Waiting {
     /// Returns a state in which no stream waits.
-    pub(crate) fn new(alloc: Global, notes: &Notes, streams: usize) -> Result<Self, AllocError> {
+    pub(crate) fn new(alloc: Global, notes: &Notes, streams: usize) -> Result<Self, AllocError>
+        ensures streams { IfOk result (λ waiting. vec_len waiting.pauses ≡ streams) }
+        ensures none { IfOk result (λ waiting.
+            (waiting.kept.items ≡ []) × (waiting.next ≡ 2 ^ 64 - 1)) }
+        ensures room { IfOk result (λ waiting. streams ≤ vec_capacity waiting.kept) }
+        ensures sizes { IfOk result (λ waiting. waiting.sizes ≡ notes.now.sizes) }
+    {
         let none = Pause {
             is_kept: false,
             life: 0,
@@ -53,7 +62,13 @@ impl Waiting {
     }
 
     /// Keeps a stream that could not be carried, for a pause twice as long as its last.
-    pub(crate) fn keep(&mut self, stream: &Stream, now: u64) {
+    pub(crate) fn keep(&mut self, stream: &Stream, now: u64)
+        ensures next { self.new.next ≤ self.old.next }
+        ensures kept { let number = stream_number self.old.sizes stream.now % 2 ^ 64 in
+            IfSome (slice_get self.old.pauses.items number) (λ pause. IsSomeAnd
+            (slice_get self.new.pauses.items number)
+            (WaitsLonger now (pause_in_life stream.now.from.life pause))) }
+    {
         self.forget_earlier(stream);
         let Some(pause) = self.pauses.get_mut(stream.number(self.sizes) as usize) else {
             return;
@@ -68,19 +83,43 @@ impl Waiting {
     }
 
     // Forgets the stream if it waits in another life.
-    fn forget_earlier(&mut self, stream: &Stream) {
-        let number = stream.number(self.sizes) as usize;
-        let pause = self.pauses.get(number);
-        if pause.is_some_and(|pause| pause.life != stream.life()) {
-            self.forget(stream);
+    fn forget_earlier(&mut self, stream: &Stream)
+        ensures next { (self.new.next ≡ self.old.next) × (self.new.sizes ≡ self.old.sizes) }
+        ensures forgotten { let number = stream_number self.old.sizes stream.now % 2 ^ 64 in
+            IfSome (slice_get self.old.pauses.items number) (λ pause. self.new.pauses.items
+            ≡ slice_set self.old.pauses.items number (pause_in_life stream.now.from.life pause)) }
+        ensures none { let number = stream_number self.old.sizes stream.now % 2 ^ 64 in
+            IfNone (slice_get self.old.pauses.items number) (self.new.pauses.items ≡ self.old.pauses.items) }
+    {
+        let sizes = self.sizes;
+        let number = stream.number(sizes);
+        let Some(pause) = self.pauses.get_mut(number as usize) else {
+            return;
+        };
+        if pause.life == stream.life() {
+            return;
         }
-        if let Some(pause) = self.pauses.get_mut(number) {
-            pause.life = stream.life();
+        let is_kept = pause.is_kept;
+        *pause = Pause {
+            is_kept: false,
+            life: stream.life(),
+            length: 0,
+            over: pause.over,
+        };
+        if is_kept {
+            self.kept.retain(|other| other.number(sizes) != number);
         }
     }
 
     /// Forgets a stream that went on, is empty, or whose life has ended.
-    pub(crate) fn forget(&mut self, stream: &Stream) {
+    pub(crate) fn forget(&mut self, stream: &Stream)
+        ensures next { (self.new.next ≡ self.old.next) × (self.new.sizes ≡ self.old.sizes) }
+        ensures forgotten { let number = stream_number self.old.sizes stream.now % 2 ^ 64 in
+            IfSome (slice_get self.old.pauses.items number) (λ pause. self.new.pauses.items
+            ≡ slice_set self.old.pauses.items number (record pause { is_kept = false; length = 0 })) }
+        ensures none { let number = stream_number self.old.sizes stream.now % 2 ^ 64 in
+            IfNone (slice_get self.old.pauses.items number) (self.new.pauses.items ≡ self.old.pauses.items) }
+    {
         let number = stream.number(self.sizes);
         let Some(pause) = self.pauses.get_mut(number as usize) else {
             return;
@@ -104,7 +143,11 @@ impl Waiting {
     }
 
     /// Lists the streams whose pause is over as work items.
-    pub(crate) fn note_ready<R: Wait>(&mut self, rt: &R, notes: &Notes, now: u64) {
+    pub(crate) fn note_ready<R: Wait>(&mut self, rt: &R, notes: &Notes, now: u64)
+        ensures kept { self.new.kept.items ≡ self.old.kept.items }
+        ensures none { now < self.old.next → self.new.next ≡ self.old.next }
+        ensures later { self.old.next ≤ now → now ≤ self.new.next }
+    {
         if now < self.next {
             return;
         }
