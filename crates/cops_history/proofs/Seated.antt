@@ -18,7 +18,7 @@ tagged_own : (seat place : ℕ) (did : List Told) → AllByRecursion (λ (d : Do
 tagged_own seat place [] = tt
 tagged_own seat place (t ∷ did) = (refl, tagged_own seat place did)
 
-numbered_own : (seat place : ℕ) (dids : List (List Told)) → AllByRecursion (λ (d : Done). seat_in d.actor ≡ seat) (numbered seat place dids)
+pub numbered_own : (seat place : ℕ) (dids : List (List Told)) → AllByRecursion (λ (d : Done). seat_in d.actor ≡ seat) (numbered seat place dids)
 numbered_own seat place [] = tt
 numbered_own seat place (did ∷ dids) = Every-append (λ (d : Done). seat_in d.actor ≡ seat) (tagged (seat ∷ place ∷ []) did) (numbered seat (suc place) dids) (tagged_own seat place did) (numbered_own seat (suc place) dids)
 
@@ -26,7 +26,7 @@ tagged_made : (name : List ℕ) (did : List Told) → turns_made (tagged name di
 tagged_made name [] = refl
 tagged_made name (t ∷ did) = ap (λ ts. turn_made_by t.command ++ ts) (tagged_made name did)
 
-numbered_made : (seat place : ℕ) (dids : List (List Told)) → turns_made (numbered seat place dids) ≡ flat_map (flat_map (λ t. turn_made_by t.command)) dids
+pub numbered_made : (seat place : ℕ) (dids : List (List Told)) → turns_made (numbered seat place dids) ≡ flat_map (flat_map (λ t. turn_made_by t.command)) dids
 numbered_made seat place [] = refl
 numbered_made seat place (did ∷ dids) =
     flat_map-append (λ (d : Done). turn_made_by d.told.command) (tagged (seat ∷ place ∷ []) did) (numbered seat (suc place) dids) ∙ (λ i. tagged_made (seat ∷ place ∷ []) did i ++ numbered_made seat (suc place) dids i)
@@ -54,7 +54,7 @@ later_not seat place from (did ∷ dids) below =
     ] refl
 
 -- what one name did is what one actor of the seat did, or nothing
-one_of : (P : List Told → Type 0) (seat place : ℕ) (dids : List (List Told)) (name : List ℕ) → P [] → AllByRecursion P dids → P (done_by name (numbered seat place dids))
+pub one_of : (P : List Told → Type 0) (seat place : ℕ) (dids : List (List Told)) (name : List ℕ) → P [] → AllByRecursion P dids → P (done_by name (numbered seat place dids))
 one_of P seat place [] name none all = none
 one_of P seat place (did ∷ dids) name none all = elim (key_eq (seat ∷ place ∷ []) name) as (λ b. key_eq (seat ∷ place ∷ []) name ≡ b → P (done_by name (numbered seat place (did ∷ dids)))) [
   | true ↦ λ same.
