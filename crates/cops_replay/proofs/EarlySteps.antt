@@ -29,7 +29,7 @@ use Rattle.cops_replay.specs.OldRecords.{last_early_clock}
 use Rattle.cops_replay.specs.Replaying.{AgreesWith, fresh_nodes, nodes_after, turn_of}
 use Rattle.cops_replay.specs.ReplayText.{FindsBy, starts_great_in}
 use Rattle.cops_replay.specs.VersionLayouts.{effect_under, layout_1, layout_2, next_under, node_step_under, turn_in}
-use Rattle.cops_replay.proofs.EarlyCalls.{EarlyCall, EarlyClock, EarlyPair, EarlyReply, EarlyTold, early_told}
+use Rattle.cops_replay.proofs.EarlyReads.{EarlyCall, EarlyClock, EarlyPair, EarlyReply, EarlyTold, early_told}
 
 -- ---- the next version
 
@@ -176,8 +176,10 @@ nodes_new (suc n) data_centres = (tt, nodes_new n data_centres)
 -- ---- a replay
 
 module _ (config : TenantConfig) (first : EarlyClock config.first_clock) where
-  turn_alike : (told : Record) (nodes : List SoloNode) → EarlyTold told → EarlyNodes nodes → turn_in Early config told nodes ≡ turn_of config told nodes
-  turn_alike told nodes early all =
+  -- the turn by the rules of either layout is that by today's
+  turn_today : (rules : Layout) (told : Record) (nodes : List SoloNode) → EarlyTold told → EarlyNodes nodes → turn_in rules config told nodes ≡ turn_of config told nodes
+  turn_today Today told nodes early all = refl
+  turn_today Early told nodes early all =
       step_alike (place_of config told.node) told.moment told.call (get_or nodes (node_number config.shards told.node) (new_node config.data_centres)) early.0 first
       (node_at nodes (node_number config.shards told.node) (new_node config.data_centres) all tt)
 
@@ -191,34 +193,28 @@ module _ (config : TenantConfig) (first : EarlyClock config.first_clock) where
   abbrev Rest : Layout → Record → ℕ → List SoloNode → List (List ℕ) → Replayed → CallEffect → Type 0
   Rest rules told passed nodes lines found turn = FindsBy Early rules config passed (set nodes (node_number config.shards told.node) turn.after) lines found
 
-  by_old_rules : (passed : ℕ) (nodes : List SoloNode) (lines : List (List ℕ)) (found : Replayed) → EarlyNodes nodes → FindsBy Early Today config passed nodes lines found → FindsBy Early Early config passed nodes lines found
-  by_old_rules passed nodes [] found all finds = finds
-  by_old_rules passed nodes (line ∷ lines) found all (inl (told, is, agrees, more)) =
-      let early = early_told line told is in
-      let same = sym (turn_alike told nodes early all) in
+  -- what the one layout's rules find, the other's find
+  by_rules : (one other : Layout) (passed : ℕ) (nodes : List SoloNode) (lines : List (List ℕ)) (found : Replayed) → EarlyNodes nodes → FindsBy Early one config passed nodes lines found → FindsBy Early other config passed nodes lines found
+  by_rules one other passed nodes [] found all finds = finds
+  by_rules one other passed nodes (line ∷ lines) found all (inl (told, is, agrees, more)) =
+      let early = (early_told line told is).1 in
+      let was = turn_today one told nodes early all in
+      let same = sym (turn_today other told nodes early all) in
+      let agreeing : AgreesWith config told (turn_of config told nodes) = subst (AgreesWith config told) was agrees in
+      let today : FindsBy Early one config (passed + 1) (nodes_after config told nodes) lines found = subst (Rest one told (passed + 1) nodes lines found) was more in
       inl (
         told,
         is,
-        subst (AgreesWith config told) same agrees,
-        subst (Rest Early told (passed + 1) nodes lines found) same (by_old_rules (passed + 1) (nodes_after config told nodes) lines found (after_early told nodes early all agrees.same_reply) more),
+        subst (AgreesWith config told) same agreeing,
+        subst (Rest other told (passed + 1) nodes lines found) same (by_rules one other (passed + 1) (nodes_after config told nodes) lines found (after_early told nodes early all agreeing.same_reply) today),
       )
-  by_old_rules passed nodes (line ∷ lines) found all (inr (differs, is)) =
-      inr ((λ told some agrees. differs told some (subst (AgreesWith config told) (turn_alike told nodes (early_told line told some) all) agrees)), is)
-
-  by_todays_rules : (passed : ℕ) (nodes : List SoloNode) (lines : List (List ℕ)) (found : Replayed) → EarlyNodes nodes → FindsBy Early Early config passed nodes lines found → FindsBy Early Today config passed nodes lines found
-  by_todays_rules passed nodes [] found all finds = finds
-  by_todays_rules passed nodes (line ∷ lines) found all (inl (told, is, agrees, more)) =
-      let early = early_told line told is in
-      let same = turn_alike told nodes early all in
-      let agreeing : AgreesWith config told (turn_of config told nodes) = subst (AgreesWith config told) same agrees in
-      inl (
-        told,
+  by_rules one other passed nodes (line ∷ lines) found all (inr (differs, is)) =
+      inr (
+        (λ told some agrees.
+            let early = (early_told line told some).1 in
+            differs told some (subst (AgreesWith config told) (turn_today other told nodes early all ∙ sym (turn_today one told nodes early all)) agrees)),
         is,
-        agreeing,
-        by_todays_rules (passed + 1) (nodes_after config told nodes) lines found (after_early told nodes early all agreeing.same_reply) (subst (Rest Early told (passed + 1) nodes lines found) same more),
       )
-  by_todays_rules passed nodes (line ∷ lines) found all (inr (differs, is)) =
-      inr ((λ told some agrees. differs told some (subst (AgreesWith config told) (sym (turn_alike told nodes (early_told line told some) all)) agrees)), is)
 
 -- ---- a tenant's lines, from new nodes
 
@@ -230,10 +226,11 @@ pub by_its_rules : (layout : Layout) (config : Config) (tenant : Tenant) (lines 
     FindsBy layout Today (tenant_config config tenant) 0 (fresh_nodes (tenant_config config tenant)) lines found → FindsBy layout layout (tenant_config config tenant) 0 (fresh_nodes (tenant_config config tenant)) lines found
 by_its_rules Today config tenant lines found starts finds = finds
 by_its_rules Early config tenant lines found starts finds =
-    by_old_rules (tenant_config config tenant) (first_early tenant starts) 0 (fresh_nodes (tenant_config config tenant)) lines found (nodes_new (config.data_centres * config.shards) config.data_centres) finds
+    by_rules (tenant_config config tenant) (first_early tenant starts) Today Early 0 (fresh_nodes (tenant_config config tenant)) lines found (nodes_new (config.data_centres * config.shards) config.data_centres) finds
 
--- and what the rules of layout 1 find, today's rules find
-pub by_rules_of_today : (config : Config) (tenant : Tenant) (lines : List (List ℕ)) (found : Replayed) → IsFalse (starts_great_in Early tenant) →
-    FindsBy Early Early (tenant_config config tenant) 0 (fresh_nodes (tenant_config config tenant)) lines found → FindsBy Early Today (tenant_config config tenant) 0 (fresh_nodes (tenant_config config tenant)) lines found
-by_rules_of_today config tenant lines found starts finds =
-    by_todays_rules (tenant_config config tenant) (first_early tenant starts) 0 (fresh_nodes (tenant_config config tenant)) lines found (nodes_new (config.data_centres * config.shards) config.data_centres) finds
+-- and what these find, today's rules find
+pub by_rules_of_today : (layout : Layout) (config : Config) (tenant : Tenant) (lines : List (List ℕ)) (found : Replayed) → IsFalse (starts_great_in layout tenant) →
+    FindsBy layout layout (tenant_config config tenant) 0 (fresh_nodes (tenant_config config tenant)) lines found → FindsBy layout Today (tenant_config config tenant) 0 (fresh_nodes (tenant_config config tenant)) lines found
+by_rules_of_today Today config tenant lines found starts finds = finds
+by_rules_of_today Early config tenant lines found starts finds =
+    by_rules (tenant_config config tenant) (first_early tenant starts) Early Today 0 (fresh_nodes (tenant_config config tenant)) lines found (nodes_new (config.data_centres * config.shards) config.data_centres) finds

@@ -20,7 +20,7 @@ use Rattle.cops_replay.specs.AuditText.{ended, head_text, layout_line, tenant_te
 use Rattle.cops_replay.specs.MigratedText.{migration_of}
 use Rattle.cops_replay.specs.MigrationLaws.{IsAuditInBoth}
 use Rattle.cops_replay.specs.ReplayText.{IsRefusedBy, IsReplayBy, IsReplayOf, RefusesReplayOf, head_by, layout_of}
-use Rattle.cops_replay.proofs.EarlyRecords.{refused_as_old, refused_today, replayed_as_old, replayed_today}
+use Rattle.cops_replay.proofs.EarlyRecords.{refused_alike, replayed_alike}
 use Rattle.cops_replay.proofs.HeadsInBoth.{alike}
 use Rattle.cops_replay.proofs.WholeMigrations.{whole}
 
@@ -106,9 +106,9 @@ module _ (bytes : List ℕ) (config : Config) (lines : List (List ℕ)) (is : Is
   pub replays_alike : (name text : List ℕ) → IsReplayOf name bytes text ↔ IsReplayOf name (migration_of bytes).text text
   replays_alike name text =
       of_files (λ layout its. IsReplayBy layout name its text)
-      (replayed_today name (lines_of bytes) (lines_of moved_text) config lines is.head back is.clocks is.records text, replayed_as_old name (lines_of bytes) (lines_of moved_text) config lines is.head back is.clocks is.records text)
+      (replayed_alike Early Today name (lines_of bytes) (lines_of moved_text) config lines is.head back is.clocks is.records text, replayed_alike Today Early name (lines_of moved_text) (lines_of bytes) config lines back is.head is.clocks is.records text)
 
   pub refuses_alike : (name : List ℕ) (refusal : ReplayRefusal) → RefusesReplayOf name bytes refusal ↔ RefusesReplayOf name (migration_of bytes).text refusal
   refuses_alike name refusal =
       of_files (λ layout its. IsRefusedBy layout name its refusal)
-      (refused_today name (lines_of bytes) (lines_of moved_text) config lines is.head back is.clocks is.records refusal, refused_as_old name (lines_of bytes) (lines_of moved_text) config lines is.head back is.clocks is.records refusal)
+      (refused_alike Early Today name (lines_of bytes) (lines_of moved_text) config lines is.head back is.clocks is.records refusal, refused_alike Today Early name (lines_of moved_text) (lines_of bytes) config lines back is.head is.clocks is.records refusal)

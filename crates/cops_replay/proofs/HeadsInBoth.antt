@@ -20,7 +20,7 @@ use Rattle.cops_replay.specs.MigrationLaws.{IsAuditInBoth, ReadsAlike}
 use Rattle.cops_replay.specs.OldRecords.{last_early_clock, old_record_in}
 use Rattle.cops_replay.specs.RecordLines.{record_in}
 use Rattle.cops_replay.specs.ReplayText.{IsEarlyLine, longest_record}
-use Rattle.cops_replay.proofs.EarlyRecords.{early_record}
+use Rattle.cops_replay.proofs.EarlyReads.{early_record}
 use Rattle.cops_replay.proofs.WholeMigrations.{clocks_before}
 
 -- ---- one line

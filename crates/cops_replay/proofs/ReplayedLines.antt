@@ -18,7 +18,7 @@ use Rattle.cops_replay.specs.Replaying.{nodes_after}
 use Rattle.cops_replay.specs.ReplayText.{great_clock_of, is_great_in, longest_record, told_of}
 use Rattle.cops_replay.specs.Replayings.{IsLineReplayed, IsRecordCounted, IsReplayedLine, MayAgree, Standing}
 use Rattle.cops_replay.specs.Replays.{AreLoneNodes}
-use Rattle.cops_replay.proofs.EarlyRecords.{early_record}
+use Rattle.cops_replay.proofs.EarlyReads.{early_record}
 
 -- ---- a line
 

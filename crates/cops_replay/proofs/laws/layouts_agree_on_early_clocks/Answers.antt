@@ -1,5 +1,5 @@
 use Rattle.std.proofs.Common.{refl}
-use Rattle.cops_replay.proofs.EarlyRecords.{early_record, record_of_layout_1}
+use Rattle.cops_replay.proofs.EarlyReads.{early_record, record_of_layout_1}
 use Rattle.cops_replay.proofs.EarlySteps.{next_alike, step_today}
 use Rattle.cops_replay.proofs.laws.layouts_agree_on_early_clocks.Goals as goal
 

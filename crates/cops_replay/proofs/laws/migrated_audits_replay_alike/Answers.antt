@@ -1,4 +1,5 @@
-use Rattle.cops_replay.proofs.EarlyRecords.{replayed_as_old, replayed_today}
+use Rattle.cops_replay.specs.declared.layouts.Layout.TheVariants.{Early, Today}
+use Rattle.cops_replay.proofs.EarlyRecords.{replayed_alike}
 use Rattle.cops_replay.proofs.HeadTexts.{refuses_alike, replays_alike, text_is_todays, text_reads_back}
 use Rattle.cops_replay.proofs.HeadsInBoth.{alike}
 use Rattle.cops_replay.proofs.WholeMigrations.{whole}
@@ -17,7 +18,7 @@ pub returns-clause-back : goal.returns-clause-back
 returns-clause-back c = text_reads_back
 
 pub returns-clause-moved : goal.returns-clause-moved
-returns-clause-moved c = λ name old moved config records text at to clocks early. (replayed_today name old moved config records at to clocks early text, replayed_as_old name old moved config records at to clocks early text)
+returns-clause-moved c = λ name old moved config records text at to clocks early. (replayed_alike Early Today name old moved config records at to clocks early text, replayed_alike Today Early name moved old config records to at clocks early text)
 
 pub returns-clause-replays : goal.returns-clause-replays
 returns-clause-replays c = λ bytes config lines name text is. replays_alike bytes config lines is name text
