@@ -2,10 +2,11 @@
 //! it or migrates it, or serves clients.
 #![tactic(auto)]
 
-ghost use Rattle.std.specs.Prelude.{◌≡◌, map};
+ghost use Rattle.std.specs.Prelude.{◌≡◌, ◌≢◌, ◌⊎◌, map, None, IfErr, IsFalse};
+ghost use Rattle.std.specs.IoError.{error_kind};
 ghost use Rattle.std.specs.Process.{exit_status};
 ghost use Rattle.cops_cli.specs.Commands.{streams};
-ghost use Rattle.cops_cli.specs.Program.{EndsProgram};
+ghost use Rattle.cops_cli.specs.Program.{EndsProgram, AsksForService};
 ghost use Rattle.cops_cli.specs.Statuses.{status_of};
 
 mod command_line;
@@ -33,7 +34,10 @@ use std::time::Clock;
 use std::{env, io};
 
 /// Returns the fault of a command line that can't be read.
-fn unread_words(error: &io::Error) -> CliFault {
+fn unread_words(error: &io::Error) -> CliFault
+    ensures memory { error_kind error.now ≡ ErrorKind.OutOfMemory → result ≡ CliFault.OutOfMemory }
+    ensures no_text { error_kind error.now ≢ ErrorKind.OutOfMemory → result ≡ CliFault.NoText }
+{
     match error.kind() {
         ErrorKind::OutOfMemory => CliFault::OutOfMemory,
         _ => CliFault::NoText,
@@ -41,7 +45,9 @@ fn unread_words(error: &io::Error) -> CliFault {
 }
 
 /// Returns the words of the command line, the program's name first.
-fn words_of<R: Env + AllocGlobal>(rt: &R) -> Result<Vec<String>, CliFault> {
+fn words_of<R: Env + AllocGlobal>(rt: &R) -> Result<Vec<String>, CliFault>
+    ensures { IfErr result (λ fault. (fault ≡ CliFault.OutOfMemory) ⊎ (fault ≡ CliFault.NoText)) }
+{
     let words = match env::args(rt) {
         Ok(words) => words,
         Err(error) => return Err(unread_words(&error)),
@@ -50,7 +56,10 @@ fn words_of<R: Env + AllocGlobal>(rt: &R) -> Result<Vec<String>, CliFault> {
 }
 
 /// Returns `true` unless the words ask for a service, which reads a head alone.
-fn reads_a_file(words: &[String]) -> bool {
+fn reads_a_file<S: AsStr>(words: &[S]) -> bool
+    ensures service { AsksForService S.text words.now → IsFalse result }
+    ensures file { IsFalse result → AsksForService S.text words.now }
+{
     match words.get(1) {
         Some(command) => command.as_str() != "serve",
         None => true,
@@ -59,7 +68,9 @@ fn reads_a_file(words: &[String]) -> bool {
 
 /// Returns what reports the progress of the command that the words name. On a terminal alone, and
 /// not for input that is typed.
-fn progress_of<'a>(rt: &'a HostRuntime, words: &[String]) -> Option<Progress<'a, HostRuntime>> {
+fn progress_of<'a, S: AsStr>(rt: &'a HostRuntime, words: &[S]) -> Option<Progress<'a, HostRuntime>>
+    ensures { AsksForService S.text words.now → result ≡ None }
+{
     let shows_progress = rt.stderr().is_terminal() && !rt.stdin().is_terminal();
     if shows_progress && reads_a_file(words) {
         Progress::new(rt)

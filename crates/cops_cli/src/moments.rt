@@ -1,4 +1,7 @@
 //! A service's clock.
+ghost use Rattle.std.specs.Prelude.{◌≡◌, ◌/◌, ◌^◌, ◌<◌, ◌≤◌};
+ghost use Rattle.std.specs.Duration.{as_nanos};
+
 use cops_wire::Moments;
 use std::time::{Clock, Duration};
 
@@ -28,7 +31,8 @@ impl<'a, R: Clock> SteadyMoments<'a, R> {
 }
 
 impl<R: Clock> Moments for SteadyMoments<'_, R> {
-    ghost Gives = { λ _ _ _. Unit {0} };
+    // No timestamp is before the first, which stays.
+    ghost Gives = { λ old moment new. (old.first ≤ moment) × (new.first ≡ old.first) };
 
     fn now(&mut self) -> u64 {
         match self.clock.monotonic() {
@@ -40,7 +44,10 @@ impl<R: Clock> Moments for SteadyMoments<'_, R> {
     }
 }
 
-// Its milliseconds, and 0 where they are too many.
-fn millis(time: Duration) -> u64 {
+// Returns a time in milliseconds, or 0 if they don't fit a `u64`.
+fn millis(time: Duration) -> u64
+    ensures fits { as_nanos time / 1_000_000 < 2 ^ 64 → result ≡ as_nanos time / 1_000_000 }
+    ensures over { 2 ^ 64 ≤ as_nanos time / 1_000_000 → result ≡ 0 }
+{
     u64::try_from(time.as_millis()).unwrap_or(0)
 }

@@ -1,5 +1,5 @@
 //! Progress of long runs, on standard error.
-ghost use Rattle.std.specs.Prelude.{◌≡◌, ◌≤◌, IfOk, IsFalse};
+ghost use Rattle.std.specs.Prelude.{◌≡◌, ◌+◌, ◌-◌, ◌^◌, ◌≤◌, ◌==◌, count_by, min, IfOk, IfSome, IsFalse};
 ghost use Rattle.std.specs.Io.{ReadsAtMost};
 ghost use Rattle.std.specs.Io.KnownBytes.{ReadConsumes};
 
@@ -13,6 +13,8 @@ const SILENCE: u64 = 2;
 /// The time between reports, in seconds.
 const INTERVAL: u64 = 1;
 
+const NEWLINE: u8 = b'\n';
+
 /// Counts the lines that a run has read, and reports their number once a second.
 #[derive(Drop)]
 pub(crate) struct Progress<'a, T> {
@@ -24,7 +26,9 @@ pub(crate) struct Progress<'a, T> {
 
 impl<'a, T: Clock> Progress<'a, T> {
     /// Returns `None` if the clock can't be read.
-    pub(crate) fn new(rt: &'a T) -> Option<Self> {
+    pub(crate) fn new(rt: &'a T) -> Option<Self>
+        ensures { IfSome result (λ progress. progress.lines ≡ 0) }
+    {
         match rt.monotonic() {
             Ok(now) => Some(Progress {
                 rt,
@@ -39,8 +43,12 @@ impl<'a, T: Clock> Progress<'a, T> {
 impl<T: Clock + Eprint> Progress<'_, T> {
     // Counts the lines that end in these bytes, and reports if a report is due. A failure to report
     // is ignored.
-    fn note(&mut self, bytes: &[u8]) {
-        let ends = bytes.iter().filter(|byte| **byte == b'\n').count();
+    fn note(&mut self, bytes: &[u8])
+        ensures { self.new.lines ≡ min
+            (self.old.lines + count_by (λ byte. byte == NEWLINE) bytes.now)
+            (2 ^ 64 - 1) }
+    {
+        let ends = bytes.iter().filter(|byte| **byte == NEWLINE).count();
         self.lines = self.lines.saturating_add(ends as u64);
         let Ok(now) = self.rt.monotonic() else {
             return;
@@ -66,6 +74,7 @@ pub(crate) struct WatchedReader<'a, T, I> {
 impl<'a, T, I> WatchedReader<'a, T, I> {
     pub(crate) fn new(reader: I, progress: Option<Progress<'a, T>>, reads_ahead: bool) -> Self
         ensures reader { result.reader ≡ reader }
+        ensures progress { result.progress ≡ progress.entry }
         ensures ahead { result.reads_ahead ≡ reads_ahead }
     {
         WatchedReader {

@@ -11,6 +11,7 @@ ghost use Rattle.cops_node.specs.Parts.{are_clocks};
 ghost use Rattle.cops_replay.specs.AuditText.{AreNodesOf, audit_of, his_nodes};
 ghost use Rattle.cops_replay.specs.WrittenAudits.{AllReplaySame, HaveLines, SaysSame};
 ghost use Rattle.cops_service.specs.Left.{AreLeft};
+ghost use Rattle.cops_cli.specs.Causes.{cause_text};
 ghost use Rattle.cops_cli.specs.Commands.{MayEnd, serving, streams};
 
 use crate::command_line::Service;
@@ -47,7 +48,9 @@ impl<R: Eprint> Reports for Told<'_, R> {
     }
 }
 
-fn text_of(cause: Cause) -> &'static str {
+fn text_of(cause: Cause) -> &'static str
+    ensures { result.now ≡ cause_text cause }
+{
     match cause {
         Cause::Refused => "refused",
         Cause::BrokenFrame => "broken frame",
