@@ -7,7 +7,10 @@ pub mod SmallCluster
 pub mod Making
 pub mod Threads
 pub mod NoOps
-pub mod Filling
+pub mod FilledLogs
+pub mod PlacedTurns
+pub mod SeatTurns
+pub mod GateLogs
 pub mod Histories
 pub mod SeatCalls
 pub mod Services
@@ -16,4 +19,8 @@ pub mod Crews
 pub mod AtShards
 pub mod SeatThreads
 pub mod SmallService
+pub mod SeatsStay
 pub mod ServedBy
+pub mod HostedMemory
+pub mod LifeTurns
+pub mod LivesRuns

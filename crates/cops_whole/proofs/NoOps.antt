@@ -20,7 +20,7 @@ use Rattle.cops_whole.specs.Whole.{CallEntry, WholeTurn, IsCallAt, IsWholeLog, L
 use Rattle.cops_whole.specs.NoOps.{IsLogOfGates, kept_log, unless_lacking}
 use Rattle.cops_whole.proofs.Prefixes.{log_parts}
 
-refused_is : (reply : NodeReply) → was_refused_memory reply ≡ true → reply ≡ Refused OutOfMemory
+pub refused_is : (reply : NodeReply) → was_refused_memory reply ≡ true → reply ≡ Refused OutOfMemory
 refused_is (Refused OutOfMemory) is = refl
 refused_is reply is = cc
 
@@ -81,7 +81,7 @@ module _ (slot : ℕ) (place : Place) where
       (solo_after e one other one_mid other_mid at at_other same call call') first second
 
 -- so a node may lack memory in one if it may in the other
-may_lack_too : (entries : List (Option CallEntry)) (opened state mid : Shared) (slot : ℕ) (call : NodeCall) → LeadsOn opened entries state → LeadsOn opened entries mid → MayLack state slot call → MayLack mid slot call
+pub may_lack_too : (entries : List (Option CallEntry)) (opened state mid : Shared) (slot : ℕ) (call : NodeCall) → LeadsOn opened entries state → LeadsOn opened entries mid → MayLack state slot call → MayLack mid slot call
 may_lack_too entries opened state mid slot call first second (place, at, room) =
     let here : place_at slot opened ≡ Some place = sym (places_kept slot entries opened state first) ∙ at in
     let same : solo_of slot place state ≡ solo_of slot place mid = solos_after slot place entries opened opened state mid here here refl first second in

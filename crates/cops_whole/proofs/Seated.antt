@@ -21,7 +21,7 @@ use Rattle.cops_whole.proofs.Nodes.{some_same}
 use Rattle.cops_whole.proofs.Recording.{by_seat}
 
 -- a node's number leads back to it
-id_again : (shards : ℕ) (id : NodeId) → id.shard < shards → id_of shards (node_number shards id) ≡ id
+pub id_again : (shards : ℕ) (id : NodeId) → id.shard < shards → id_of shards (node_number shards id) ≡ id
 id_again shards id below = λ i. record { dc = dc_is i; shard = shard_is i }
   where
     dc_is : (id.dc * shards + id.shard) / shards ≡ id.dc

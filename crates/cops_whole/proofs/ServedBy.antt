@@ -1,5 +1,5 @@
 -- The seats that the threads of a service gave back did the calls of actors.
-use Rattle.std.proofs.Common.{◌≡◌, ◌≢◌, ℕ, zero, suc, ◌*◌, ◌<◌, true, false, not, cond, ◌==◌, ◌&&◌, nat_lt, List, [], ◌∷◌, map, length, inl, inr, get_or, lt-ltb, ◌++◌, append_assoc, refl, sym, ◌∙◌, ap, subst, arith}
+use Rattle.std.proofs.Common.{◌≡◌, ◌≢◌, ℕ, zero, suc, ◌*◌, ◌<◌, true, false, not, ◌==◌, ◌&&◌, nat_lt, List, [], ◌∷◌, map, length, inl, inr, get_or, lt-ltb, ◌++◌, append_assoc, refl, sym, ◌∙◌, ap, subst, arith}
 use Rattle.std.specs.Prelude.{Some, slice_get}
 use Rattle.std.specs.List.{AllByRecursion}
 use Rattle.std.proofs.lemmas.Bool.Decides.{Decides-eqb}
@@ -11,11 +11,8 @@ use Rattle.cops_types.specs.declared.configs.Tenant.{Tenant}
 use Rattle.cops_types.specs.TenantConfig.{tenant_config}
 use Rattle.cops_types.proofs.Elements.{and_true}
 use Rattle.cops_gate.specs.History.{IsLegal, Leads, turns_at}
-use Rattle.cops_gate.specs.declared.history.Turn.{Turn}
 use Rattle.cops_gate.specs.Rule.{AreDistinctNumbers, Met}
-use Rattle.cops_gate.specs.Seats.{AreMadeBy, HasAllOf, all_spent}
-use Rattle.cops_gate.proofs.Accounts.{met_left, met_right}
-use Rattle.cops_gate.proofs.Ending.{all_weaker}
+use Rattle.cops_gate.specs.Seats.{AreMadeBy, HasAllOf}
 use Rattle.cops_gate.proofs.Keeps.{there_at}
 use Rattle.cops_model.specs.Cluster.{has_node, has_stream}
 use Rattle.cops_model.specs.Place.{node_number}
@@ -35,11 +32,12 @@ use Rattle.cops_history.specs.Turns.{Turn as CallTurn}
 use Rattle.cops_served.specs.Conversations.{MakesTurns, turns_of_told}
 use Rattle.cops_whole.specs.Seats.{MakesAll, SlotActor}
 use Rattle.cops_whole.specs.ServedBy.{AreServedByActors, HasTicketsLeft, ServesAllCausally}
-use Rattle.cops_whole.specs.Services.{IsCallAtShard, IsCrewRun, IsNumbered, IsTurnAtShard, SeatActors, SeatDid, actors_numbered, past_numbers}
+use Rattle.cops_whole.specs.Services.{IsCallAtShard, IsCrewRun, IsTurnAtShard, SeatActors, SeatDid, did_by, past_numbers}
 use Rattle.cops_whole.specs.Clients.{AnswerClients, AreSessionsOf, conversations_by}
 use Rattle.cops_whole.specs.Threads.{AreCallsOfActors}
-use Rattle.cops_whole.proofs.Crews.{run_of_crew}
+use Rattle.cops_whole.proofs.Crews.{all_numbered, by_own_number, run_of_crew}
 use Rattle.cops_whole.proofs.Histories.{how_many, opened_at}
+use Rattle.cops_whole.proofs.SeatsStay.{HasMetNone, StaysSeat, later_seat, met_none, same_seat}
 use Rattle.cops_whole.proofs.SeatThreads.{carries, collected, serves, sessions_served}
 use Rattle.cops_whole.proofs.Services.{tenants_of_service}
 use Rattle.cops_whole.proofs.Threads.{both, none}
@@ -49,7 +47,7 @@ use Rattle.cops_whole.proofs.Threads.{both, none}
 slice_there : {A : Type 0} (xs : List A) (i : ℕ) → i < length xs → (x : A) × (slice_get xs i ≡ Some x)
 slice_there xs i within = let there = there_at xs i within in (get_or xs i there.0, slice_get-get_or xs i there.0 within)
 
-get_there : {A : Type 0} (xs : List A) (i : ℕ) (x : A) → slice_get xs i ≡ Some x → get_elem? xs i ≡ some x
+pub get_there : {A : Type 0} (xs : List A) (i : ℕ) (x : A) → slice_get xs i ≡ Some x → get_elem? xs i ≡ some x
 get_there xs i x at =
     let there = there_at xs i (slice_get_within xs i x at) in
     there.1 ∙ ap some (read_at xs i there.0 there.1 ∙ get_or_from_slice_get xs i x there.0 at)
@@ -103,17 +101,6 @@ module _ (config : Config) (cluster : Gates Shared) where
   abbrev MadeCalls : ℕ → NodeSeat → List CallTurn → NodeSeat → Type 0
   MadeCalls slot = MakesTurns (IsCallAtShard config cluster) slot
 
-  -- the seat keeps its number, and remembers at which nodes it met the last ticket
-  record StaysSeat (old new : NodeSeat) : Type 0 where
-    number : new.number ≡ old.number
-    met : (node : ℕ) → Met node old.spent → Met node new.spent
-
-  same_seat : (old new : NodeSeat) → new ≡ old → StaysSeat old new
-  same_seat old new same = record { number = ap (λ (s : NodeSeat). s.number) same; met = λ node. subst (λ (s : NodeSeat). Met node s.spent) (sym same) }
-
-  later_seat : (old mid new : NodeSeat) → StaysSeat old mid → StaysSeat mid new → StaysSeat old new
-  later_seat old mid new first second = record { number = second.number ∙ first.number; met = λ node met. second.met node (first.met node met) }
-
   after_turns : (slot : ℕ) (turns : List CallTurn) (old new : NodeSeat) → MadeCalls slot old turns new → StaysSeat old new
   after_turns slot [] old new same = same_seat old new same
   after_turns slot (t ∷ turns) old new (mid, call, later) = later_seat old mid new (record { number = call.1.same.1; met = call.1.met }) (after_turns slot turns mid new later)
@@ -121,10 +108,6 @@ module _ (config : Config) (cluster : Gates Shared) where
   after_all : (actors : List SlotActor) (old new : NodeSeat) → MakesAll (IsCallAtShard config cluster) old actors new → StaysSeat old new
   after_all [] old new same = same_seat old new same
   after_all (a ∷ actors) old new (mid, made, later) = later_seat old mid new (after_turns a.slot (turns_of_told a.did) old mid made) (after_all actors mid new later)
-
-  -- the seat met no last ticket
-  abbrev HasMetNone : NodeSeat → Type 0
-  HasMetNone seat = (node : ℕ) → Met node seat.spent → ⊥
 
   turned : (old new : NodeSeat) (id : NodeId) (slot moment : ℕ) (call : NodeCall) (reply : NodeReply) → HasMetNone new → IsCallAtShard config cluster old id slot moment call reply new → IsTurnAtShard config cluster old id slot moment call reply new
   turned old new id slot moment call reply none (below, told) = (
@@ -157,14 +140,14 @@ module _ (config : Config) (cluster : Gates Shared) where
 
   abbrev crew_of : (seats : List NodeSeat) → AllByRecursion Acted seats → List SeatActors
   crew_of [] all = []
-  crew_of (s ∷ seats) all = record { number = s.number; actors = all.0.calls.actors } ∷ crew_of seats all.1
+  crew_of (s ∷ seats) all = record { number = s.number; did = all.0.calls.actors } ∷ crew_of seats all.1
 
   numbers_are : (seats : List NodeSeat) (all : AllByRecursion Acted seats) → map (λ (s : SeatActors). s.number) (crew_of seats all) ≡ map (λ (s : NodeSeat). s.number) seats
   numbers_are [] all = refl
   numbers_are (s ∷ seats) all = ap (λ ns. s.number ∷ ns) (numbers_are seats all.1)
 
   all_did : (history : NodeLog) (seats : List NodeSeat) (all : AllByRecursion Acted seats) → AllByRecursion (HasAllOf history) seats → AllByRecursion HasMetNone seats →
-      AllByRecursion (λ (s : SeatActors). SeatDid config cluster history s.number s.actors) (crew_of seats all)
+      AllByRecursion (λ (s : SeatActors). SeatDid config cluster history s.number s.did) (crew_of seats all)
   all_did history [] all seen none = tt
   all_did history (s ∷ seats) all seen none = (
     record {
@@ -178,48 +161,6 @@ module _ (config : Config) (cluster : Gates Shared) where
     },
     all_did history seats all.1 seen.1 none.1,
   )
-
--- ---- no seat met the last ticket
-
--- a seat that met none has no seat that met one among those that ended into it
-met_none : (seats : List NodeSeat) → ((node : ℕ) → Met node (all_spent [] seats) → ⊥) → AllByRecursion (λ (s : NodeSeat). (node : ℕ) → Met node s.spent → ⊥) seats
-met_none [] none = tt
-met_none (s ∷ seats) none = (
-  (λ node met. none node (met_left node s.spent (all_spent [] seats) met)),
-  met_none seats (λ node met. none node (met_right node s.spent (all_spent [] seats) met)),
-)
-
--- ---- who made the turns
-
-is_numbered : (crew : List SeatActors) (number : ℕ) → Met number (map (λ (s : SeatActors). s.number) crew) → IsNumbered crew number
-is_numbered [] number met = absurd met
-is_numbered (s ∷ crew) number (inl this) = inl (sym this)
-is_numbered (s ∷ crew) number (inr later) = inr (is_numbered crew number later)
-
-all_numbered : (crew : List SeatActors) (history : NodeLog) → AreMadeBy (map (λ (s : SeatActors). s.number) crew) history → AllByRecursion (λ (t : Turn NodeCall NodeReply). IsNumbered crew t.seat) history
-all_numbered crew history made =
-    all_weaker (λ (t : Turn NodeCall NodeReply). Met t.seat (map (λ (s : SeatActors). s.number) crew)) (λ (t : Turn NodeCall NodeReply). IsNumbered crew t.seat) history (λ t met. is_numbered crew t.seat met) made
-
--- ---- seats by number
-
--- others have another number
-others_known : (s : SeatActors) (actors : ℕ → List SlotActor) (crew : List SeatActors) → (Met s.number (map (λ (t : SeatActors). t.number) crew) → ⊥) → AllByRecursion (λ (t : SeatActors). actors t.number ≡ t.actors) crew →
-    AllByRecursion (λ (t : SeatActors). cond (s.number == t.number) s.actors (actors t.number) ≡ t.actors) crew
-others_known s actors [] never all = tt
-others_known s actors (t ∷ crew) never all = (
-  elim (s.number == t.number) as (λ b. (s.number == t.number) ≡ b → cond b s.actors (actors t.number) ≡ t.actors) [
-    | true ↦ λ is. absurd (never (inl ((Decides-eqb s.number t.number).0 is)))
-    | false ↦ λ apart. all.0
-  ] refl,
-  others_known s actors crew (λ met. never (inr met)) all.1,
-)
-
-by_own_number : (crew : List SeatActors) → AreDistinctNumbers (map (λ (s : SeatActors). s.number) crew) → AllByRecursion (λ (s : SeatActors). actors_numbered crew s.number ≡ s.actors) crew
-by_own_number [] apart = tt
-by_own_number (s ∷ crew) apart = (
-  ap (λ b. cond b s.actors (actors_numbered crew s.number)) ((Decides-eqb s.number s.number).1 refl),
-  others_known s (actors_numbered crew) crew apart.0 (by_own_number crew apart.1),
-)
 
 -- ---- the service
 
@@ -267,14 +208,14 @@ module _ {M : Type 0} (Gives : M → ℕ → M → Type 0) (moments : M) (config
   abbrev AnswerFirst : (these : List NodeSeat) → AllByRecursion DidServe these → List SeatActors → Type 0
   AnswerFirst [] all crew = Unit {0}
   AnswerFirst (seat ∷ these) all [] = ⊥
-  AnswerFirst (seat ∷ these) all (s ∷ crew) = (s.number ≡ seat.number) × AreSessionsOf (conversations_by Gives moments config cluster seat all.0) s.actors × AnswerFirst these all.1 crew
+  AnswerFirst (seat ∷ these) all (s ∷ crew) = (s.number ≡ seat.number) × AreSessionsOf (conversations_by Gives moments config cluster seat all.0) s.did × AnswerFirst these all.1 crew
 
   answer_first : (these rest : List NodeSeat) (all : AllByRecursion DidServe these) (more : AllByRecursion (Acted config cluster) rest) → AnswerFirst these all (crew_of config cluster (these ++ rest) (with_workers these rest all more))
   unfolding by_worker acted
   answer_first [] rest all more = tt
   answer_first (s ∷ these) rest all more = (refl, sessions_served config cluster Gives all.0.does.0 all.0.first s moments all.0.does.1 some_shards all.0.does.2, answer_first these rest all.1 more)
 
-  answer_by_number : (actors : ℕ → List SlotActor) (these : List NodeSeat) (all : AllByRecursion DidServe these) (crew : List SeatActors) → AnswerFirst these all crew → AllByRecursion (λ (s : SeatActors). actors s.number ≡ s.actors) crew →
+  answer_by_number : (actors : ℕ → List SlotActor) (these : List NodeSeat) (all : AllByRecursion DidServe these) (crew : List SeatActors) → AnswerFirst these all crew → AllByRecursion (λ (s : SeatActors). actors s.number ≡ s.did) crew →
       AnswerClients Gives moments config cluster actors these all
   answer_by_number actors [] all crew first known = tt
   answer_by_number actors (seat ∷ these) all [] first known = absurd first
@@ -299,9 +240,9 @@ module _ {M : Type 0} (Gives : M → ℕ → M → Type 0) (moments : M) (config
   legal_there : (number : ℕ) → number < config.data_centres * config.shards → IsLegal IsMachineTurn (new_shared config number) (turns_at number history)
   legal_there number within = let node = there_at nodes number (subst (λ n. number < n) (sym node_count) within) in (node.0, left_there number node.0 within node.1)
 
-  none_met : HasTicketsLeft history → AllByRecursion (HasMetNone config cluster) seats
+  none_met : HasTicketsLeft history → AllByRecursion (HasMetNone) seats
   none_met few =
-      subst (AllByRecursion (HasMetNone config cluster)) seats_are
+      subst (AllByRecursion (HasMetNone)) seats_are
       (met_none served.seen.seats (λ node met. let below = few node in let full = served.exhausted node (subst (Met node) (sym served.seen.spent) met) in omega (arith, below, full)))
 
   numbers_there : map (λ (s : SeatActors). s.number) all_crew ≡ map (λ (s : NodeSeat). s.number) served.seen.seats
@@ -317,7 +258,7 @@ module _ {M : Type 0} (Gives : M → ℕ → M → Type 0) (moments : M) (config
   causally : HasTicketsLeft history → ServesAllCausally config history nodes all_crew
   causally few =
       let service = run_of_crew config cluster history all_crew (run few) in
-      let all = tenants_of_service config cluster history (past_numbers all_crew) (actors_numbered all_crew) service some_shards in
+      let all = tenants_of_service config cluster history (past_numbers all_crew) (did_by all_crew) service some_shards in
       record {
         log = all.0;
         is_log = all.1;
@@ -331,7 +272,7 @@ module _ {M : Type 0} (Gives : M → ℕ → M → Type 0) (moments : M) (config
   served_by_actors = record {
     crew = all_crew;
     numbers = numbers_there;
-    sessions = answer_by_number (actors_numbered all_crew) workers_seats served.seen.crew.serve.serve.1 all_crew (answer_first workers_seats others served.seen.crew.serve.serve.1 acted_others)
+    sessions = answer_by_number (did_by all_crew) workers_seats served.seen.crew.serve.serve.1 all_crew (answer_first workers_seats others served.seen.crew.serve.serve.1 acted_others)
         (by_own_number all_crew (subst AreDistinctNumbers (sym numbers_there) served.apart));
     causally = causally;
   }

@@ -7,3 +7,4 @@ pub mod Services
 pub mod SmallService
 pub mod Clients
 pub mod ServedBy
+pub mod LivesRuns

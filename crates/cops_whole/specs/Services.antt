@@ -87,28 +87,33 @@ pub record IsTenantOfService (config : Config) (tenant : Tenant) (slot : ℕ) (h
 
 -- ---- seats that threads gave back
 
--- a seat's number, and the actors whose calls it made
-pub record SeatActors : Type 0 where
+-- a seat's number, and what it did
+pub record SeatDeeds (D : Type 0) : Type 0 where
   pub number : ℕ
-  pub actors : List SlotActor
+  pub did : List D
 
--- one of these seats has this number
-abbrev pub IsNumbered : List SeatActors → ℕ → Type 0
-IsNumbered [] number = ⊥
-IsNumbered (seat ∷ crew) number = (seat.number ≡ number) ⊎ IsNumbered crew number
+-- the actors whose calls a seat made
+abbrev pub SeatActors : Type 0
+SeatActors = SeatDeeds SlotActor
 
--- the actors of the first of these seats with this number
-abbrev pub actors_numbered : List SeatActors → ℕ → List SlotActor
-actors_numbered [] number = []
-actors_numbered (seat ∷ crew) number = if seat.number == number then seat.actors else actors_numbered crew number
+module _ {D : Type 0} where
+  -- one of these seats has this number
+  abbrev pub IsNumbered : List (SeatDeeds D) → ℕ → Type 0
+  IsNumbered [] number = ⊥
+  IsNumbered (seat ∷ crew) number = (seat.number ≡ number) ⊎ IsNumbered crew number
 
--- more than each of their numbers
-abbrev pub past_numbers : List SeatActors → ℕ
-past_numbers [] = 0
-past_numbers (seat ∷ crew) = max (suc seat.number) (past_numbers crew)
+  -- what the first of these seats with this number did
+  abbrev pub did_by : List (SeatDeeds D) → ℕ → List D
+  did_by [] number = []
+  did_by (seat ∷ crew) number = if seat.number == number then seat.did else did_by crew number
+
+  -- more than each of their numbers
+  abbrev pub past_numbers : List (SeatDeeds D) → ℕ
+  past_numbers [] = 0
+  past_numbers (seat ∷ crew) = max (suc seat.number) (past_numbers crew)
 
 -- Each of these seats did the calls of its actors, and no other seat made a turn.
 pub record IsCrewRun (config : Config) (cluster : Gates Shared) (history : NodeLog) (crew : List SeatActors) : Type 0 where
   pub gate : IsGateHistory config cluster history
-  pub did : AllByRecursion (λ (s : SeatActors). SeatDid config cluster history s.number s.actors) crew
+  pub did : AllByRecursion (λ (s : SeatActors). SeatDid config cluster history s.number s.did) crew
   pub seated : AllByRecursion (λ (t : Turn NodeCall NodeReply). IsNumbered crew t.seat) history

@@ -1,5 +1,5 @@
 ghost use Rattle.std.specs.Prelude.{◌≡◌, ◌≢◌, ℕ, ◌<◌, ◌*◌, ◌++◌, ◌∷◌, [], Bool, true, List, Some, None, slice_get};
-ghost use Rattle.std.specs.List.{flat_map};
+ghost use Rattle.std.specs.List.{AllByRecursion, flat_map};
 ghost use Rattle.cops_types.specs.declared.configs.Config.{Config};
 ghost use Rattle.cops_types.specs.declared.configs.Tenant.{Tenant};
 ghost use Rattle.cops_types.specs.TenantConfig.{tenant_config};
@@ -10,10 +10,12 @@ ghost use Rattle.cops_model.specs.declared.calls.NodeCall.TheVariants.{Collect};
 ghost use Rattle.cops_model.specs.declared.calls.NodeId.{NodeId};
 ghost use Rattle.cops_model.specs.declared.calls.NodeReply.{NodeReply};
 ghost use Rattle.cops_node.specs.Clusters.{new_shared};
+ghost use Rattle.cops_node.specs.Hosting.{Hosted};
 ghost use Rattle.cops_node.specs.Parts.{Shared};
 ghost use Rattle.cops_wire.specs.Requests.{KeepsShape};
 ghost use Rattle.cops_history.specs.Turns.{IsLegalAtEach, all_new, node_numbered};
-ghost use Rattle.cops_history.specs.History.{Done, Told, AreActs, all_done, seat_in, turns};
+ghost use Rattle.cops_history.specs.History.{Behaves, Done, Told, AreActs, all_done, seat_in, turns};
+ghost use Rattle.cops_history.specs.Lives.{IsTimeOf, LivesCausally, SlotTurn};
 ghost use Rattle.cops_model.specs.declared.deliveries.Delivery.{Delivery};
 ghost use Rattle.cops_service.specs.Carried.{Delivers};
 ghost use Rattle.cops_service.specs.Connections.{IsDesk};
@@ -21,12 +23,14 @@ ghost use Rattle.cops_service.specs.Conversing.{ConverseAll};
 ghost use Rattle.cops_service.specs.Crews.{AreServedBy};
 ghost use Rattle.cops_service.specs.Desks.{IsDeskCall, NodeSeat};
 ghost use Rattle.cops_service.specs.Gates.{Gates};
+ghost use Rattle.cops_service.specs.Hosted.{HostedLog};
 ghost use Rattle.cops_service.specs.Slots.{NodeLog};
 ghost use Rattle.cops_whole.specs.Threads.{AreCallsOfActors};
+ghost use Rattle.cops_whole.specs.LivesRuns.{Deed, IsLivesRun, IsLogOfLives, commands_in_life};
 ghost use Rattle.cops_whole.specs.NoOps.{IsLogOfGates};
 ghost use Rattle.cops_whole.specs.Seats.{AddsTurns, AllRecorded, IsServedCluster, MakesAll, SlotActor, own_commands, turns_by_actor};
 ghost use Rattle.cops_whole.specs.ServedBy.{AreServedByActors};
-ghost use Rattle.cops_whole.specs.Services.{IsCallAtShard, IsCrewRun, IsLogOfService, IsServiceRun, IsTenantOfService, SeatActors, actors_numbered, past_numbers};
+ghost use Rattle.cops_whole.specs.Services.{IsCallAtShard, IsCrewRun, IsLogOfService, IsServiceRun, IsTenantOfService, SeatActors, did_by, past_numbers};
 ghost use Rattle.cops_whole.specs.SmallCluster.{small_actors, small_config, small_log};
 ghost use Rattle.cops_whole.specs.SmallService.{lacking_actors, lacking_history, small_gates, small_history};
 ghost use Rattle.cops_whole.specs.Whole.{CallEntry, WholeTurn, AreServedForTenant, IsWholeLog, LeadsOn, Represents, entries_at, own_log, own_turns, place_there, seat_turns, tenant_turn, whole_turn};
@@ -147,7 +151,7 @@ pub fn tenants_of_services_are_served_causally()
 
 /// Theorem: seats that threads gave back make a service, if no other seat made a turn.
 pub fn crews_run_services()
-    ensures { (config : Config) (cluster : Gates Shared) (history : NodeLog) (crew : List SeatActors) → IsCrewRun config cluster history crew → IsServiceRun config cluster history (past_numbers crew) (actors_numbered crew) }
+    ensures { (config : Config) (cluster : Gates Shared) (history : NodeLog) (crew : List SeatActors) → IsCrewRun config cluster history crew → IsServiceRun config cluster history (past_numbers crew) (did_by crew) }
 {}
 
 /// Theorem: a service that ran the small cluster meets the premises, also if a call was refused memory.
@@ -163,4 +167,20 @@ pub fn small_service_ran()
 pub fn threads_serve_causally<M: Moments>()
     ensures { (config : Config) (workers : ℕ) (moments : M) (nodes : List Shared) (served : AreServedBy M.Gives moments config workers nodes) → 0 < config.shards →
         AreServedByActors M.Gives moments config workers nodes served }
+{}
+
+/// Theorem: a service whose tenants come and go, that ran, is one log of all calls, those of the host among them. In each life of a
+/// slot, the turns of each seat are those of its actors' commands. Where memory was refused, the gate's history has a no-op turn.
+pub fn services_are_logs_of_lives()
+    ensures { (config : Config) (states : List Hosted) (history : HostedLog) (seats : ℕ) (deeds : ℕ → List Deed) → IsLivesRun config states history seats deeds →
+        (log : List SlotTurn) × IsLogOfLives config history deeds log }
+{}
+
+/// Theorem: each life in it is served causally, if its actors behave as those of its tenant. Until a call of the life gets
+/// `UnknownTenant`, the actors' commands are acts of a cluster that the tenant has to itself, with the causal laws.
+pub fn lives_of_services_are_served_causally()
+    ensures { (config : Config) (states : List Hosted) (history : HostedLog) (seats : ℕ) (deeds : ℕ → List Deed) (log prefix : List SlotTurn) (tenant : Tenant) (slot life : ℕ) → 0 < config.shards →
+        IsLivesRun config states history seats deeds → IsLogOfLives config history deeds log → IsTimeOf config tenant slot life prefix log →
+        ((seat : ℕ) → AllByRecursion (Behaves (tenant_config config tenant) None) (commands_in_life slot life (deeds seat))) →
+        LivesCausally config tenant slot life prefix (λ seat. commands_in_life slot life (deeds seat)) }
 {}
