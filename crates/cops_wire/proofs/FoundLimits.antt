@@ -2,7 +2,6 @@
 use Rattle.std.proofs.Common.{◌≡◌, ℕ, zero, suc, ◌+◌, ◌≤◌, Bool, true, false, cond, ◌&&◌, List, [], ◌∷◌, ◌++◌, map, length, drop, refl, sym, ◌∙◌, ap, subst, arith, append-nil, true≢false}
 use Rattle.std.specs.Prelude.{Option, Some, None, find, nat_le, unwrap_or}
 use Rattle.std.specs.List.{AllByRecursion, cons_option, flat_map, fold}
-use Rattle.std.specs.Option.{option_map_or}
 use Rattle.std.specs.declared.cmp.Ordering.{Ordering}
 use Rattle.std.specs.declared.cmp.Ordering.TheVariants.{Less, Equal, Greater}
 use Rattle.std.proofs.lemmas.Bool.Decides.{nat_tests}
@@ -17,7 +16,7 @@ use Rattle.cops_types.specs.Search.{add_item, sorted_set}
 use Rattle.cops_types.specs.TenantConfig.{TenantConfig}
 use Rattle.cops_types.proofs.Elements.{Every-append, Every-filter}
 use Rattle.cops_types.proofs.GreatestLists.{Rises-keys, keys_of}
-use Rattle.cops_types.proofs.PairLists.{key_cmp_total, keys-greatest_per_key}
+use Rattle.cops_types.proofs.PairLists.{key_cmp_total}
 use Rattle.cops_types.proofs.SortedSet.{sorted_set-Rises}
 use Rattle.cops_model.specs.declared.calls.NodeReply.{NodeReply}
 use Rattle.cops_model.specs.declared.calls.NodeReply.TheVariants.{Found}

@@ -1,5 +1,5 @@
 -- A reply gives all of an answer if the tenant's lists have at most 1,024 pairs.
-use Rattle.std.proofs.Common.{◌≡◌, ◌⊎◌, ℕ, ◌≤◌, Bool, true, false, cond, List, [], ◌∷◌, ◌++◌, length, zero, suc, inl, inr, refl, sym, ap, subst, ◌∙◌}
+use Rattle.std.proofs.Common.{◌≡◌, ◌⊎◌, ℕ, ◌≤◌, Bool, true, false, cond, List, [], ◌∷◌, ◌++◌, length, zero, suc, inl, inr, refl, subst}
 use Rattle.std.specs.Prelude.{Option, Some, None, nat_lt, slice_get}
 use Rattle.cops_types.specs.declared.contexts.ReadParts.{ReadParts as Read}
 use Rattle.cops_types.specs.declared.faults.Fault.{Fault}
@@ -12,13 +12,12 @@ use Rattle.cops_model.specs.declared.calls.NodeReply.{NodeReply}
 use Rattle.cops_model.specs.declared.calls.NodeReply.TheVariants as node_reply
 use Rattle.cops_model.specs.declared.requests.Answer.{Answer}
 use Rattle.cops_model.specs.declared.requests.Answer.TheVariants as answer_is
-use Rattle.cops_model.specs.declared.requests.Progress.{Progress}
-use Rattle.cops_model.specs.declared.requests.Progress.TheVariants.{Working, Restarted, Done}
+use Rattle.cops_model.specs.declared.requests.Progress.TheVariants.{Done}
 use Rattle.cops_model.specs.Log.{Call, Directed, Ended, Late, LogStep, Next, Replied, Restart, call_or, first_fault, replies_of}
 use Rattle.cops_model.specs.Request.{Action, Fetch, Request, Write, answer, answer_in, attempt_of, complete, next, request_calls, unless_fault}
 use Rattle.cops_model.specs.Session.{Running, Session, moment_at, obs_of, progress, request_of, shown}
 use Rattle.cops_wire.specs.Limits.{IsHeldOrTyped}
-use Rattle.cops_wire.specs.Requests.{Backend, DoesNext, EndsAfter, is_one_frame, message_of_answer, whole_message}
+use Rattle.cops_wire.specs.Requests.{Backend, DoesNext, EndsAfter, message_of_answer, whole_message}
 use Rattle.cops_wire.specs.Running.{HasFewKeys}
 use Rattle.cops_wire.proofs.FoundLimits.{taken_fit}
 use Rattle.cops_wire.proofs.StepLemmas.{logged, same_running}

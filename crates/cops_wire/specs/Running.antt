@@ -1,10 +1,11 @@
 -- The steps of a session that is kept, for each session of the definition that it stands for.
-use Rattle.std.specs.Prelude.{◌≡◌, ◌≤◌, ◌++◌, ℕ, nat_lt, not, length, List, [], ◌∷◌, Option, Some, None, Result, Ok, Err, OnOk, OnErr}
+use Rattle.std.specs.Prelude.{◌≡◌, ◌≤◌, ◌++◌, ℕ, true, false, nat_lt, not, length, List, [], ◌∷◌, Option, Some, None, Result, Ok, Err, OnOk, OnErr, IfSome, ⊤}
 use Rattle.std.specs.List.{list_all}
 use Rattle.std.specs.declared.alloc.AllocError.{AllocError}
 use Rattle.cops_types.specs.declared.faults.Fault.{Fault}
 use Rattle.cops_types.specs.declared.faults.Fault.TheVariants.{BadKey, Syntax}
 use Rattle.cops_types.specs.declared.request_errors.RequestError.{RequestError}
+use Rattle.cops_types.specs.declared.request_errors.RequestError.TheVariants.{OutOfMemory, Refused as RefusedWith}
 use Rattle.cops_types.specs.Key.{is_key}
 use Rattle.cops_types.specs.RequestErrors.{AnswersUnless, fault_told}
 use Rattle.cops_types.specs.Search.{first_refusal}
@@ -20,9 +21,15 @@ use Rattle.cops_model.specs.Request.{Action, Write, Fetch}
 use Rattle.cops_model.specs.Session.{Running, Session}
 use Rattle.cops_session.specs.SessionStands.{SessionStandsFor}
 use Rattle.cops_wire.specs.declared.messages.Message.{Message}
-use Rattle.cops_wire.specs.declared.messages.Message.TheVariants.{Refused}
+use Rattle.cops_wire.specs.declared.messages.Message.TheVariants.{CreateContext, DeleteContext, GetTrans, Refused}
+use Rattle.cops_wire.specs.declared.faults.Unread.{Unread}
+use Rattle.cops_wire.specs.declared.faults.Unread.TheVariants.{Memory, Malformed}
+use Rattle.cops_wire.specs.declared.reading.Request.{Request}
+use Rattle.cops_wire.specs.declared.reading.Request.TheVariants as asked
 use Rattle.cops_wire.specs.Limits.{IsHeldOrTyped}
 use Rattle.cops_wire.specs.Requests.{Backend, Ends, HasFewRestarts, RequestGoesOn, Steps, backend, message_of_answer}
+use Rattle.cops_wire.specs.Reading.{Fails, put_message_of}
+use Rattle.cops_wire.specs.Serving.{is_request}
 use Rattle.cops_wire.specs.Spelling.{spelling}
 
 -- a transaction over at most 32 keys, or a put
@@ -66,6 +73,36 @@ pub record IsRequestDone (config : TenantConfig) (refusal : Option Fault) (old t
 pub record AreKeysOf (lists : List (List ℕ)) (made : Result Unit RequestError) (keys : List (List ℕ)) : Type 0 where
   pub same : OnOk made (keys ≡ lists)
   pub told_is : AnswersUnless (first_refusal ((nat_lt (length lists) 1, Syntax) ∷ (not (list_all is_key lists), BadKey) ∷ [])) made
+
+-- the keys were made of these lists so far; or one is no key, or memory ran out
+abbrev pub AreMadeOf : List (List ℕ) → Result Unit RequestError → List (List ℕ) → Type 0
+AreMadeOf lists (Ok made) keys = (keys ≡ lists) × (list_all is_key lists ≡ true)
+AreMadeOf lists (Err OutOfMemory) keys = ⊤
+AreMadeOf lists (Err (RefusedWith fault)) keys = (fault ≡ BadKey) × (list_all is_key lists ≡ false)
+
+-- lists were read, and keys made of them
+abbrev pub AreKeysRead : Result (Result Unit RequestError) Unread → List (List ℕ) → List ℕ → Option (List (List ℕ) × List ℕ) → Type 0
+AreKeysRead (Ok made) keys rest read = (lists : List (List ℕ)) × (read ≡ Some (lists, rest)) × AreKeysOf lists made keys
+AreKeysRead (Err e) keys rest read = Fails e read
+
+-- the request asks what the message asks; the keys are those of a get transaction
+abbrev pub Asks : Request → List (List ℕ) → Message → Type 0
+Asks asked.Create keys message = message ≡ CreateContext
+Asks (asked.Delete handle) keys message = message ≡ DeleteContext handle
+Asks (asked.Put put) keys message = message ≡ put_message_of put
+Asks (asked.Get handle made) keys message = (lists : List (List ℕ)) × (message ≡ GetTrans handle lists) × AreKeysOf lists made keys
+
+-- the parts of a request were read, or those of no request
+abbrev pub IsPartsAsked : Result Request Unread → List (List ℕ) → List ℕ → Option (Message × List ℕ) → Type 0
+IsPartsAsked (Ok request) keys rest read = (message : Message) × (read ≡ Some (message, rest)) × Asks request keys message
+IsPartsAsked (Err Memory) keys rest read = ⊤
+IsPartsAsked (Err Malformed) keys rest read = IfSome read (λ parts. is_request parts.0 ≡ false)
+
+-- a request was read, or what is none
+abbrev pub IsRequestRead : Result Request Unread → List (List ℕ) → Option Message → Type 0
+IsRequestRead (Ok request) keys read = (message : Message) × (read ≡ Some message) × Asks request keys message
+IsRequestRead (Err Memory) keys read = ⊤
+IsRequestRead (Err Malformed) keys read = IfSome read (λ message. is_request message ≡ false)
 
 -- the frame of a reply was put at the end, or nothing if memory ran out
 abbrev pub PutsFrame : Result Unit AllocError → List ℕ → List ℕ → Message → Type 0

@@ -1,5 +1,5 @@
 //! The requests of a client, as its session answers them.
-ghost use Rattle.std.specs.Prelude.{◌≡◌, ℕ, List, [], Some, None, true, IsTrue, OnOk, OnErr, IfOk, MatchResult};
+ghost use Rattle.std.specs.Prelude.{◌≡◌, ℕ, List, [], Some, None, true, OnOk, OnErr, IfOk, MatchResult};
 ghost use Rattle.cops_types.specs.Key.{is_key};
 ghost use Rattle.cops_types.specs.RequestErrors.{AnswersUnless, OnOutOfMemory};
 ghost use Rattle.cops_types.specs.TenantConfig.{TenantConfig};
@@ -9,23 +9,22 @@ ghost use Rattle.cops_model.specs.Session.{Session as SoloSession, context_creat
 ghost use Rattle.cops_session.specs.SessionStands.{SessionStandsFor};
 ghost use Rattle.cops_wire.specs.declared.messages.Message.{Message};
 ghost use Rattle.cops_wire.specs.Fitting.{CanBeWritten};
-ghost use Rattle.cops_wire.specs.Reading.{all_at, put_message_of, text_at};
+ghost use Rattle.cops_wire.specs.Reading.{put_message_of};
 ghost use Rattle.cops_wire.specs.Requests.{KeepsShape, HasAnswered, backend, deletion_refusal, naming_refusal, number_in, reading_refusal, writing_refusal};
-ghost use Rattle.cops_wire.specs.Running.{AreKeysOf, HasRun, IsRequestDone, PutsFrame};
-ghost use Rattle.cops_wire.specs.Serving.{is_request};
+ghost use Rattle.cops_wire.specs.Running.{AreKeysOf, Asks, HasRun, IsRequestDone, PutsFrame};
 ghost use Rattle.cops_wire.specs.Spelling.{spelling};
 ghost use Rattle.cops_handles.specs.Wire.{wire_of};
 ghost use Rattle.cops_session.specs.Tags.{context_tag};
 
 use crate::messages::Message;
 use crate::moments::Moments;
-use crate::reading::{GetCells, PutParts, Unseen};
+use crate::reading::{PutParts, Request};
 use crate::steps::finish;
 use crate::writing::{encode, push_failure};
 use cops_handles::Handle;
 use cops_node::Nodes;
 use cops_session::{Contexts, Session};
-use cops_types::{ByteLists, Fault, Key, RequestError, Value};
+use cops_types::{Fault, Key, RequestError, Value};
 use std::alloc::{AllocError, Global};
 
 /// The context that a handle names, while no request runs.
@@ -121,46 +120,6 @@ fn begin_put(
     Ok(())
 }
 
-/// Makes keys of these lists, if each is one and there are some.
-///
-/// They replace the earlier ones in the same room.
-fn take_keys(keys: &mut Vec<Key>, lists: &ByteLists) -> Result<(), RequestError>
-    ensures { AreKeysOf lists.now result keys.new.items }
-{
-    let lists = lists.as_slice();
-    if lists.is_empty() {
-        return Err(RequestError::Refused(Fault::Syntax));
-    }
-    keys.clear();
-    for list in lists {
-        let key = Key::new(list.as_slice())?;
-        keys.push(key)?;
-    }
-    Ok(())
-}
-
-/// Makes keys of those that lie behind one another, if each is one and there are some.
-///
-/// They replace the earlier ones in the same room.
-fn take_keys_at(keys: &mut Vec<Key>, count: u8, bytes: &[u8]) -> Result<(), RequestError>
-    ensures { (lists : List (List ℕ)) → all_at (text_at 1) count bytes.now ≡ Some (lists, []) →
-        AreKeysOf lists result keys.new.items }
-{
-    if count == 0 {
-        return Err(RequestError::Refused(Fault::Syntax));
-    }
-    keys.clear();
-    let mut unseen = Unseen::of(bytes);
-    for _ in 0..count {
-        let Some(bytes) = unseen.next_key() else {
-            return Err(RequestError::Refused(Fault::Syntax));
-        };
-        let key = Key::new(bytes)?;
-        keys.push(key)?;
-    }
-    Ok(())
-}
-
 /// Begins a get transaction of keys that were made of its lists, unless that failed.
 fn begin_get(
     session: &mut Session,
@@ -207,7 +166,7 @@ fn run<N: Nodes, M: Moments>(
 }
 
 /// Answers a put as `answer` does.
-pub(crate) fn answer_put<N: Nodes, M: Moments>(
+fn answer_put<N: Nodes, M: Moments>(
     alloc: Global,
     session: &mut Session,
     nodes: &mut N,
@@ -253,83 +212,35 @@ fn answer_get<N: Nodes, M: Moments>(
     run(session, nodes, moments, begun, out)
 }
 
-/// Answers a get transaction whose keys lie behind one another, as `answer` does. The keys are made in the room of those that stood there.
-pub(crate) fn answer_get_at<N: Nodes, M: Moments>(
-    session: &mut Session,
-    nodes: &mut N,
-    moments: &mut M,
-    keys: &mut Vec<Key>,
-    get: GetCells,
-    out: &mut Vec<u8>,
-) -> Result<(), AllocError>
-    requires fits { IsOfSizes (N.shape nodes.old).data_centres (N.shape nodes.old).shards
-        session.old.setting }
-    ensures answered { (lists : List (List ℕ)) →
-        all_at (text_at 1) get.entry.count get.entry.keys.now ≡ Some (lists, []) → (reply : Message)
-        × HasAnswered (KeepsShape N.shape N.Answers) M.Gives
-        (backend session.old nodes.old moments.old) (Message.GetTrans get.entry.handle lists) reply
-        (backend session.new nodes.new moments.new)
-        × PutsFrame result out.old.items out.new.items reply }
-    ensures setting { session.new.setting ≡ session.old.setting }
-    ensures shape { N.shape nodes.new ≡ N.shape nodes.old }
-{
-    let made = take_keys_at(keys, get.count, get.keys);
-    answer_get(
-        session,
-        nodes,
-        moments,
-        &get.handle,
-        made,
-        keys.as_slice(),
-        out,
-    )
-}
-
-/// Answers a request, and puts its reply at the end.
+/// Answers a request and appends its reply. The keys are those of a get transaction.
 ///
-/// After an `Err` no reply is there, though the request may have been answered.
+/// On `Err` nothing was appended; the request may still have taken effect.
 pub(crate) fn answer<N: Nodes, M: Moments>(
     alloc: Global,
     session: &mut Session,
     nodes: &mut N,
     moments: &mut M,
-    request: &Message,
+    request: Request,
+    keys: &[Key],
     out: &mut Vec<u8>,
 ) -> Result<(), AllocError>
     requires fits { IsOfSizes (N.shape nodes.old).data_centres (N.shape nodes.old).shards
         session.old.setting }
-    requires request { IsTrue (is_request request.now) }
-    ensures answered { (reply : Message)
+    ensures answered { (message : Message) → Asks request.entry keys.now message → (reply : Message)
         × HasAnswered (KeepsShape N.shape N.Answers) M.Gives
-        (backend session.old nodes.old moments.old) request.now reply
+        (backend session.old nodes.old moments.old) message reply
         (backend session.new nodes.new moments.new)
         × PutsFrame result out.old.items out.new.items reply }
     ensures setting { session.new.setting ≡ session.old.setting }
     ensures shape { N.shape nodes.new ≡ N.shape nodes.old }
 {
     match request {
-        Message::CreateContext => match create(session) {
+        Request::Create => match create(session) {
             Ok(reply) => encode(&reply, out),
             Err(error) => push_failure(out, RequestError::from(error)),
         },
-        Message::DeleteContext(handle) => encode(&delete(session, handle), out),
-        Message::Put(handle, key, value) => answer_put(
-            alloc,
-            session,
-            nodes,
-            moments,
-            PutParts {
-                handle: *handle,
-                key: key.as_slice(),
-                value: value.as_slice(),
-            },
-            out,
-        ),
-        Message::GetTrans(handle, lists) => {
-            let mut keys = Vec::new(alloc);
-            let made = take_keys(&mut keys, lists);
-            answer_get(session, nodes, moments, handle, made, keys.as_slice(), out)
-        }
-        _ => Ok(()),
+        Request::Delete(handle) => encode(&delete(session, &handle), out),
+        Request::Put(put) => answer_put(alloc, session, nodes, moments, put, out),
+        Request::Get(handle, made) => answer_get(session, nodes, moments, &handle, made, keys, out),
     }
 }

@@ -4,8 +4,8 @@ use Rattle.cops_wire.specs.Requests.{KeepsShape, HasAnswered, backend}
 use Rattle.cops_wire.proofs.WalkLemmas.{WalkedSoFar}
 use Rattle.cops_wire.proofs.serving.Responder.answer_frames.Given as goal
 
-abbrev pub invariant-loop-size : goal.invariant-loop-size
-invariant-loop-size g l = record {
+abbrev pub invariant-loop-body : goal.invariant-loop-body
+invariant-loop-body g l = record {
   walked : WalkedSoFar (HasAnswered (KeepsShape g.N.Nodes.shape g.N.Nodes.Answers) g.M.Moments.Gives) l.bytes l.taken (backend l.fn.session l.fn.nodes l.fn.moments) (backend l.session l.nodes l.moments)
       (g.W.Write.contents (sink_writer l.fn.self.sink)) (g.W.Write.contents (sink_writer l.self.sink)) l.fn.self.out.items l.self.out.items;
   failures : sink_failures l.self.sink ≡ sink_failures l.fn.self.sink;
@@ -13,5 +13,5 @@ invariant-loop-size g l = record {
   shape : g.N.Nodes.shape l.nodes ≡ g.N.Nodes.shape l.fn.nodes;
 }
 
-abbrev pub decreases-loop-size : goal.decreases-loop-size
-decreases-loop-size g l = length l.bytes - l.taken
+abbrev pub decreases-loop-body : goal.decreases-loop-body
+decreases-loop-body g l = length l.bytes - l.taken
