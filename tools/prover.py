@@ -46,13 +46,13 @@ class Crate:
         for it in self.below:
             it.is_used = True
 
-    def text(self):
-        """All that it is proved from: how long that is tells roughly how long the proof takes."""
-        files = [f"{at}/{it}" for part in SOURCES for at, _, its in os.walk(f"{self.folder}/{part}") for it in its]
-        return "".join(open(it, encoding="utf-8").read() for it in files if it.endswith((".rt", ".antt")))
+    def code(self):
+        """Its functions and their contracts: how long they are tells roughly how long the proof takes. Lemmas take little."""
+        files = [f"{at}/{it}" for at, _, its in os.walk(f"{self.folder}/src") for it in its]
+        return "".join(open(it, encoding="utf-8").read() for it in files if it.endswith(".rt"))
 
     def has_tests(self):
-        return "#[test]" in self.text()
+        return "#[test]" in self.code()
 
 
 def crates_of_the_repository():
@@ -591,8 +591,9 @@ def in_lanes(tasks, lanes):
             ready = [it for it in left if {*tasks[it][0]} <= ended][: lanes - len(running)]
             for key in ready:
                 left.remove(key)
-                # What nothing else can run beside gets the processors that are idle.
-                width = lanes - len(running) if not any(tasks[it][1] for it in (*ready, *running.values()) if it != key) else 1
+                # Those that run side by side share the processors.
+                beside = {it for it in (*ready, *running.values()) if it != key and tasks[it][1]}
+                width = lanes // (len(beside) + 1)
                 running[pool.submit(in_lane, min(max(width, 1), 4), tasks[key][2])] = key
             for done in wait(running, return_when=FIRST_COMPLETED).done:
                 done.result()
