@@ -80,7 +80,10 @@ pub fn read_config<R: Read>(
 {
     let mut head: ScriptMachine<HeadAlone, ()> = new_script(HeadAlone);
     let mut nothing = Sink::new(Vec::new(alloc));
-    match run_lines(&mut head, alloc, TURNS, LONGEST_LINE, source, &mut nothing) {
+    let ended = run_lines(&mut head, alloc, TURNS, LONGEST_LINE, source, &mut nothing);
+    drop(head);
+    drop(nothing);
+    match ended {
         Err(RunFault::Refused(HeadEnd::Whole(config))) => Ok(config),
         Err(RunFault::Refused(HeadEnd::Bad(bad))) => Err(RunFault::Refused(bad)),
         Err(RunFault::OutOfMemory) => Err(RunFault::OutOfMemory),
