@@ -1,8 +1,8 @@
 //! Reads the command line.
-ghost use Rattle.std.specs.Prelude.{◌≡◌, ◌⊎◌, [], codes, map, option_map, false, IfOk, IfErr, OnOk};
+ghost use Rattle.std.specs.Prelude.{◌≡◌, ◌⊎◌, [], List, codes, map, option_map, false, IfOk, IfErr, OnOk};
 ghost use Rattle.clap.specs.Matches.{found_of};
 ghost use Rattle.clap.specs.Walk.{rows_of};
-ghost use Rattle.clap.specs.Words.{app_of, fault_of, new_app, one_of, rule_of};
+ghost use Rattle.clap.specs.Words.{Text, app_of, fault_of, new_app, one_of, rule_of, subcommand_of, subcommand_rows_of};
 ghost use Rattle.clap.specs.declared.builder.command.Command.TheViews.{out-Command};
 ghost use Rattle.cops_cli.specs.CommandLine.{ArePlain, IsAskedBy, IsRefusedAs, IsServiceIn, IsSpelledBy, address, audit, cops, extract, flag, given_tenant, migrate, number, numbered_serve, only_tenant, replay, run, serve, solo, tenant, tenant_word, with_audit, with_extract, with_migrate, with_replay, with_run, with_solo};
 
@@ -340,6 +340,34 @@ fn service_in<'a>(serve: &ArgMatches<'a>) -> Service<'a>
     }
 }
 
+/// Returns the task of a command line that clap accepts.
+fn task_in<'a>(matches: &ArgMatches<'a>) -> Task<'a>
+    ensures { (words : List Text) → subcommand_rows_of matches.now ≡ subcommand_of cops words → fault_of cops words ≡ [] → IsAskedBy words result }
+{
+    if let Some(solo) = matches.subcommand_matches("solo") {
+        let tenant = tenant_in(solo);
+        return Task::Solo(tenant);
+    }
+    if let Some(replay) = matches.subcommand_matches("replay") {
+        let named = tenant_in(replay);
+        return Task::Replay(named);
+    }
+    if let Some(extract) = matches.subcommand_matches("extract") {
+        let owner = tenant_in(extract);
+        return Task::Extract(owner);
+    }
+    if let Some(serve) = matches.subcommand_matches("serve") {
+        return Task::Serve(service_in(serve));
+    }
+    if let Some(_migrate) = matches.subcommand_matches("migrate") {
+        return Task::Migrate;
+    }
+    match matches.subcommand_matches("audit") {
+        Some(audit) => Task::Audit(given_tenant_in(audit)),
+        None => Task::Run,
+    }
+}
+
 /// Reads the words, of which the first is the program's name. Fails if clap refuses them, or memory
 /// runs out.
 pub(crate) fn read_words<'a, S: AsStr>(alloc: Global, words: &'a [S]) -> Result<Task<'a>, CliFault>
@@ -351,26 +379,5 @@ pub(crate) fn read_words<'a, S: AsStr>(alloc: Global, words: &'a [S]) -> Result<
         IfErr result (λ fault. fault ≡ CliFault.OutOfMemory) }
 {
     let matches = command_line(alloc)?.try_get_matches_from(words)?;
-    if let Some(solo) = matches.subcommand_matches("solo") {
-        let tenant = tenant_in(solo);
-        return Ok(Task::Solo(tenant));
-    }
-    if let Some(replay) = matches.subcommand_matches("replay") {
-        let named = tenant_in(replay);
-        return Ok(Task::Replay(named));
-    }
-    if let Some(extract) = matches.subcommand_matches("extract") {
-        let owner = tenant_in(extract);
-        return Ok(Task::Extract(owner));
-    }
-    if let Some(serve) = matches.subcommand_matches("serve") {
-        return Ok(Task::Serve(service_in(serve)));
-    }
-    if let Some(_migrate) = matches.subcommand_matches("migrate") {
-        return Ok(Task::Migrate);
-    }
-    match matches.subcommand_matches("audit") {
-        Some(audit) => Ok(Task::Audit(given_tenant_in(audit))),
-        None => Ok(Task::Run),
-    }
+    Ok(task_in(&matches))
 }
