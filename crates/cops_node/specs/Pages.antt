@@ -11,7 +11,7 @@ pub record AuditLists : Type 0 where
 
 -- the number of calls in a full page
 abbrev pub PAGE : ℕ
-PAGE = 64
+PAGE = 128
 
 -- the page at a place of the table
 abbrev pub page_at : List (Option Page) → ℕ → Option Page

@@ -10,11 +10,11 @@ use std::alloc::{AllocError, Global};
 use std::marker::Model;
 
 /// The number of calls in a full page.
-const PAGE: usize = 64;
+const PAGE: usize = 128;
 
 /// The first capacity of a page, except for a slot's first page, whose capacity grows from the
 /// least.
-const HALF_PAGE: usize = 32;
+const HALF_PAGE: usize = 64;
 
 /// Some calls of one slot in order. A page has its number among the slot's pages, and the places of
 /// the page before it and of an earlier one, at which a search skips those between.
