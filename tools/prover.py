@@ -591,9 +591,9 @@ def in_lanes(tasks, lanes):
             ready = [it for it in left if {*tasks[it][0]} <= ended][: lanes - len(running)]
             for key in ready:
                 left.remove(key)
-                # Those that run side by side share the processors.
-                beside = {it for it in (*ready, *running.values()) if it != key and tasks[it][1]}
-                width = lanes // (len(beside) + 1)
+                # What nothing else can run beside gets the processors that are idle. Otherwise each has one, so that no more
+                # provers run than there are lanes: each may take 5 GB.
+                width = lanes - len(running) if not any(tasks[it][1] for it in (*ready, *running.values()) if it != key) else 1
                 running[pool.submit(in_lane, min(max(width, 1), 4), tasks[key][2])] = key
             for done in wait(running, return_when=FIRST_COMPLETED).done:
                 done.result()
