@@ -1,15 +1,21 @@
 -- Which nodes are a configuration's.
 use Rattle.std.proofs.Common.{◌≡◌, ℕ, suc, ◌*◌, ◌<◌, ◌≤◌, List, [], ◌∷◌, length, get_or, refl, sym, ap, ◌∙◌, arith}
-use Rattle.std.specs.Prelude.{Option, Some}
+use Rattle.std.specs.Prelude.{Option, Some, option_map, slice_get}
 use Rattle.std.specs.List.{AllByRecursion}
+use Rattle.std.proofs.lemmas.Option.{slice_get-get_or}
 use Rattle.cops_types.specs.declared.configs.Config.{Config}
+use Rattle.cops_types.specs.declared.configs.Tenant.{Tenant}
 use Rattle.cops_types.specs.Layout.{NODES}
 use Rattle.cops_types.specs.TenantConfig.{tenant_config}
 use Rattle.cops_node.specs.Clusters.{id_of}
-use Rattle.cops_node.specs.Parts.{Shared, Site, place_at, site_in, site_of}
+use Rattle.cops_node.specs.declared.Home.{Home}
+use Rattle.cops_node.specs.declared.Terms.{Terms}
+use Rattle.cops_node.specs.Parts.{Shared, Site, home_of, place_at, place_under, site_in, site_of, terms_at, terms_of}
 use Rattle.cops_node.proofs.Clusters.{place_new}
 use Rattle.cops_model.specs.Place.{Place, place_of}
 use Rattle.cops_replay.specs.AuditText.{AreNodesOf}
+use Rattle.cops_replay.specs.OpenAudits.{AreNodesOfOpen, HaveTenants}
+use Rattle.cops_replay.proofs.AuditTexts.{each_at}
 
 all_from : (P : Shared → Type 0) (nodes : List Shared) → ((i : ℕ) (node : Shared) → i < length nodes → node ≡ get_or nodes i node → P node) → AllByRecursion P nodes
 all_from P [] h = tt
@@ -32,4 +38,21 @@ nodes_with_sites config nodes fit all each = record {
       let site = each number node below is in
       ap (place_on slot) site ∙ place_new config slot tenant number e
       ∙ ap (λ (s : Site). Some (place_of (tenant_config config tenant) s.home.id)) (sym site));
+}
+
+-- nodes with the homes of a configuration's nodes, by number, that have the open tenants
+pub nodes_with_homes : (config : Config) (tenants : List (Option Tenant)) (nodes : List Shared) → config.data_centres * config.shards ≤ NODES → length nodes ≡ config.data_centres * config.shards →
+    ((number : ℕ) (node : Shared) → number < length nodes → node ≡ get_or nodes number node → node.home ≡ home_of config (id_of config.shards number)) → HaveTenants tenants nodes → AreNodesOfOpen config tenants nodes
+nodes_with_homes config tenants nodes fit all each have = record {
+  by_number = record {
+    numbers_fit = fit;
+    all = all;
+    each = λ number node below is. (ap (λ (h : Home). h.id) (each number node below is), ap (λ (h : Home). h.shape) (each number node below is));
+  };
+  each_tenant = λ slot tenant e. all_from (λ (n : Shared). place_at slot n ≡ Some (place_of (tenant_config config tenant) n.home.id)) nodes (λ number node below is.
+      let home = each number node below is in
+      let terms : terms_at slot node ≡ Some (terms_of tenant) = each_at (λ (n : Shared). terms_at slot n ≡ Some (terms_of tenant)) nodes number node (have slot tenant e) (slice_get-get_or nodes number node below ∙ ap Some (sym is)) in
+      ap (λ (o : Option Terms). option_map (place_under node.home) o) terms
+      ∙ ap (λ (h : Home). Some (place_under h (terms_of tenant))) home
+      ∙ ap (λ (h : Home). Some (place_of (tenant_config config tenant) h.id)) (sym home));
 }

@@ -18,7 +18,7 @@ use Rattle.cops_script.specs.ScriptRuns.{text_in}
 use Rattle.cops_world.specs.Worlds.{KeptWorld}
 use Rattle.cops_replay.specs.Audits.{ReplaysSame}
 use Rattle.cops_replay.specs.AuditText.{audit_text}
-use Rattle.cops_replay.specs.OpenAudits.{left_config, left_nodes, nodes_at, open_slots, open_tenants, with_tenants}
+use Rattle.cops_replay.specs.OpenAudits.{left_config, left_nodes, open_config_of, open_nodes_of}
 
 -- the audit of the nodes after each open tenant's lines, as if it had a cluster to itself
 abbrev pub audit_after : HeadReading → Output
@@ -46,10 +46,10 @@ ReplaysSameFor (BadAt number) = ⊤
 
 -- the configuration of a world with the open tenants, and their nodes by place among them
 abbrev pub open_config : KeptWorld → Config
-open_config world = with_tenants world.setup.head (open_tenants world.setup.tenants)
+open_config world = open_config_of world.setup.head world.setup.tenants
 
 abbrev pub open_nodes : KeptWorld → TenantConfig → ℕ → List SoloNode
-open_nodes world = nodes_at world.setup.head (open_slots world.setup.tenants) world.nodes.nodes
+open_nodes world = open_nodes_of world.setup.head world.setup.tenants world.nodes.nodes
 
 -- each slot of the world's nodes is that of its tenant
 abbrev pub HasItsTenants : KeptWorld → Type 0

@@ -4,7 +4,9 @@ use Rattle.cops_types.specs.declared.configs.Config.{Config}
 use Rattle.cops_types.specs.declared.configs.Tenant.{Tenant}
 use Rattle.cops_types.specs.TenantConfig.{TenantConfig, tenant_config}
 use Rattle.cops_node.specs.Clusters.{HasTenant, IsCluster, shape_of}
-use Rattle.cops_node.specs.Parts.{Shared}
+use Rattle.std.specs.List.{AllByRecursion}
+use Rattle.cops_types.specs.OpenSlots.{open_at}
+use Rattle.cops_node.specs.Parts.{Shared, terms_at, terms_of}
 use Rattle.cops_model.specs.SoloNode.{SoloNode}
 use Rattle.cops_script.specs.ScriptWorlds.{cluster_left, life_left, setup_left}
 use Rattle.cops_replay.specs.AuditText.{audit_text, his_nodes}
@@ -48,6 +50,32 @@ pub record AreNodesAt (config : Config) (tenants : List Tenant) (slots : List �
   pub each_slot : length slots ≡ length tenants
   pub each_tenant : (place : ℕ) (tenant : Tenant) → slice_get tenants place ≡ Some tenant →
       HasTenant (tenant_config config tenant) (slice_index_or slots place 0) (record { shape = shape_of config; nodes = nodes })
+
+-- ---- of nodes that tenants share, for the open tenants, each in its slot
+
+abbrev pub open_config_of : Config → List (Option Tenant) → Config
+open_config_of config tenants = with_tenants config (open_tenants tenants)
+
+-- by place among them
+abbrev pub open_nodes_of : Config → List (Option Tenant) → List Shared → TenantConfig → ℕ → List SoloNode
+open_nodes_of config tenants nodes = nodes_at config (open_slots tenants) nodes
+
+abbrev pub open_audit_of : Config → List (Option Tenant) → List Shared → List ℕ
+open_audit_of config tenants nodes = audit_text (open_config_of config tenants) (open_nodes_of config tenants nodes)
+
+-- the slot has no tenant, or each of these nodes has its tenant there, with its first clock and quota
+abbrev pub HaveSlot : List (Option Tenant) → List Shared → ℕ → Type 0
+HaveSlot tenants nodes slot =
+    (tenant : Tenant) → open_at slot tenants ≡ Some tenant → AllByRecursion (λ node. terms_at slot node ≡ Some (terms_of tenant)) nodes
+
+-- each of these nodes has each open tenant
+abbrev pub HaveTenants : List (Option Tenant) → List Shared → Type 0
+HaveTenants tenants nodes = (slot : ℕ) → HaveSlot tenants nodes slot
+
+-- these are the configuration's nodes, by number, and in them the slot of each open tenant is that tenant's
+pub record AreNodesOfOpen (config : Config) (tenants : List (Option Tenant)) (nodes : List Shared) : Type 0 where
+  pub by_number : IsCluster (shape_of config) nodes
+  pub each_tenant : (slot : ℕ) (tenant : Tenant) → open_at slot tenants ≡ Some tenant → HasTenant (tenant_config config tenant) slot (record { shape = shape_of config; nodes = nodes })
 
 -- ---- of a script: the open tenants after its lines, each with the nodes after its life's lines
 

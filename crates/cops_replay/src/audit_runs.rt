@@ -1,5 +1,5 @@
 //! The audit of a script, over any reader and any writer.
-ghost use Rattle.std.specs.Prelude.{◌≡◌, ◌⊎◌, ℕ, List, IfErr, IfOk, IfSome, IsErrOf, OnErr, OnOk};
+ghost use Rattle.std.specs.Prelude.{◌≡◌, ◌⊎◌, ℕ, List, IfErr, IfSome, IsErrOf, OnErr, OnOk};
 ghost use Rattle.std.specs.Io.KnownBytes.{Appends, IsAtEnd, Keeps};
 ghost use Rattle.cops_types.specs.declared.faults.Fault.TheVariants.{WriteFault};
 ghost use Rattle.cops_types.specs.Counts.{HasRisen, HasRisenBy};
@@ -15,42 +15,15 @@ ghost use Rattle.cops_script.specs.Script.{Written};
 ghost use Rattle.cops_replay.specs.Audits.{HasShape, ReplaysSame};
 ghost use Rattle.cops_replay.specs.AuditText.{audit_text};
 ghost use Rattle.cops_replay.specs.AuditRuns.{HasItsTenants, IsOfWriting, ReplaysSameFor, WritesAudit, WritesAuditFront, audit_out, open_config, open_nodes};
-ghost use Rattle.cops_replay.specs.OpenAudits.{open_slots, open_tenants};
 ghost use Rattle.cops_replay.specs.WrittenAudits.{AreFormed, AreFormedFor, SaysSameFor};
 
-use crate::audits::write_audit_at;
+use crate::open_audits::write_open_audit;
 use cops_script::{BadConfig, RunFault};
-use cops_types::{RequestError, Sink, Source, Tenant};
+use cops_types::{RequestError, Sink, Source};
 use cops_world::{World, script_world};
-use std::alloc::{AllocError, Global};
+use std::alloc::Global;
 use std::io::{Read, Write};
 use std::mem;
-
-/// Returns the open tenants, by slot.
-fn open_tenants(alloc: Global, tenants: &[Option<Tenant>]) -> Result<Vec<Tenant>, AllocError>
-    ensures { IfOk result (λ found. found.items ≡ open_tenants tenants.now) }
-{
-    let mut found = Vec::new(alloc);
-    for tenant in tenants {
-        if let Some(tenant) = tenant {
-            found.push(*tenant)?;
-        }
-    }
-    Ok(found)
-}
-
-/// Returns the slots that have a tenant, rising.
-fn open_slots(alloc: Global, tenants: &[Option<Tenant>]) -> Result<Vec<u64>, AllocError>
-    ensures { IfOk result (λ slots. slots.items ≡ open_slots tenants.now) }
-{
-    let mut slots = Vec::new(alloc);
-    for slot in 0..tenants.len() {
-        if tenants[slot].is_some() {
-            slots.push(slot as u64)?;
-        }
-    }
-    Ok(slots)
-}
 
 /// Writes the audit of the open tenants of a world, by slot.
 fn write_open<O: Write>(
@@ -67,17 +40,7 @@ fn write_open<O: Write>(
     ensures write_fault { OnRefusal result (HasRisen (sink_failures sink.old) (sink_failures sink.new)) }
 {
     let nodes = world.nodes();
-    let by_slot = world.tenants().as_slice();
-    let tenants = open_tenants(alloc, by_slot)?;
-    let slots = open_slots(alloc, by_slot)?;
-    write_audit_at(
-        alloc,
-        sink,
-        world.config(),
-        tenants.as_slice(),
-        slots.as_slice(),
-        nodes,
-    )
+    write_open_audit(alloc, sink, world.config(), world.tenants(), nodes)
 }
 
 /// Writes the audit of the nodes of a world.

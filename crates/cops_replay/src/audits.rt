@@ -188,7 +188,7 @@ pub(crate) fn write_audit_at<W: Write>(
 }
 
 /// Theorem: each call in the audit of each node could come to it.
-fn audits_fit(nodes: &[Node])
+pub(crate) fn audits_fit(nodes: &[Node])
     ensures { AllByRecursion AuditFits nodes.now }
 {
     for node in nodes {

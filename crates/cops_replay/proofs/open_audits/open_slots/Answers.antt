@@ -4,8 +4,8 @@ use Rattle.std.proofs.lemmas.Option.{slice_get-get_or}
 use Rattle.cops_replay.specs.OpenAudits.{open_slots}
 use Rattle.cops_replay.proofs.AuditTexts.{take_whole}
 use Rattle.cops_replay.proofs.OpenLists.{slot_where_none, slot_where_some}
-use Rattle.cops_replay.proofs.audit_runs.open_slots.Goals.{then-is_some+in_ok-push, else-is_some}
-use Rattle.cops_replay.proofs.audit_runs.open_slots.Goals as goal
+use Rattle.cops_replay.proofs.open_audits.open_slots.Goals.{then-is_some+in_ok-push, else-is_some}
+use Rattle.cops_replay.proofs.open_audits.open_slots.Goals as goal
 
 pub loop-slot-preserved : goal.loop-slot-preserved
 loop-slot-preserved c =

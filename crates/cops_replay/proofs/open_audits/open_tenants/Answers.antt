@@ -5,8 +5,8 @@ use Rattle.cops_types.specs.declared.configs.Tenant.{Tenant}
 use Rattle.cops_replay.specs.OpenAudits.{open_tenants}
 use Rattle.cops_replay.proofs.AuditTexts.{take_whole}
 use Rattle.cops_replay.proofs.OpenLists.{no_more_tenant, one_more_tenant}
-use Rattle.cops_replay.proofs.audit_runs.open_tenants.Goals.{in-Some+in_ok-push, in_default}
-use Rattle.cops_replay.proofs.audit_runs.open_tenants.Goals as goal
+use Rattle.cops_replay.proofs.open_audits.open_tenants.Goals.{in-Some+in_ok-push, in_default}
+use Rattle.cops_replay.proofs.open_audits.open_tenants.Goals as goal
 
 pub loop-tenant-preserved : goal.loop-tenant-preserved
 loop-tenant-preserved c =
