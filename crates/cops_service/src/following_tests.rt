@@ -123,14 +123,23 @@ fn lines_of_the_host_are_followed(rt: HostRuntime) {
 fn lines_are_taken_in_order_until_the_end(rt: HostRuntime) {
     let lines = HostLines::new(rt.alloc()).expect(&rt, "memory");
     let mut taken = lines.room(rt.alloc()).expect(&rt, "memory");
-    lines.push(&rt, HostLine::Unknown);
-    lines.push(&rt, HostLine::End);
+    assert!(&rt; lines.offer(HostLine::Unknown).is_ok());
+    assert!(&rt; lines.offer(HostLine::End).is_ok());
     assert!(&rt; lines.take(&rt, &mut taken));
     assert!(&rt; matches!(taken.as_slice(), [HostLine::Unknown, HostLine::End]));
     taken.clear();
-    lines.push(&rt, HostLine::End);
+    assert!(&rt; lines.offer(HostLine::End).is_ok());
     lines.end(&rt);
-    lines.push(&rt, HostLine::Unknown);
+    assert!(&rt; lines.offer(HostLine::Unknown).is_ok());
     assert!(&rt; !lines.take(&rt, &mut taken));
     assert!(&rt; matches!(taken.as_slice(), [HostLine::End]));
+}
+
+#[test]
+fn a_line_without_room_comes_back(rt: HostRuntime) {
+    let lines = HostLines::new(rt.alloc()).expect(&rt, "memory");
+    for _ in 0..64 {
+        assert!(&rt; lines.offer(HostLine::Unknown).is_ok());
+    }
+    assert!(&rt; matches!(lines.offer(HostLine::End), Err(HostLine::End)));
 }

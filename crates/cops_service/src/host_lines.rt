@@ -1,5 +1,5 @@
 //! Lines of the host, from the thread that reads them to the one that follows them.
-ghost use Rattle.std.specs.Prelude.{◌≡◌, ◌<◌, ◌≤◌, ◌↔◌, ◌++◌, ◌∷◌, [], IfOk, IsTrue};
+ghost use Rattle.std.specs.Prelude.{◌≡◌, ◌<◌, ◌≤◌, ◌↔◌, ◌++◌, ◌∷◌, [], IfErr, IfOk, IsTrue};
 ghost use Rattle.std.specs.Vec.{vec_capacity, vec_len};
 
 use cops_types::{Name, Tenant};
@@ -7,7 +7,7 @@ use std::alloc::{AllocError, Global};
 use std::mem;
 use std::sync::{Condvar, Mutex, Wait};
 
-/// The most lines that wait. A thread that adds another waits for room.
+/// The most lines that wait. Another one is given back.
 const MOST_WAITING: usize = 64;
 
 /// The meaning of a line of the host.
@@ -70,19 +70,24 @@ impl HostLines {
         })
     }
 
-    /// Adds a line, once there is room. Ignores it if the service no longer follows lines.
-    pub fn push<R: Wait>(&self, rt: &R, line: HostLine) {
-        let locked = self.waiting.lock(rt);
-        let mut waiting = self.changed.wait_while(
-            rt,
-            locked,
-            |waiting| waiting.is_full() && !waiting.is_over,
-        );
-        if !waiting.is_over {
-            waiting.push(line);
+    /// Hands a line of standard input on to the service's host, and never waits. Gives the line back if there is no room for it
+    /// now, or another thread uses the list: offer it again a little later. A line that comes after the service is ignored.
+    pub fn offer(&self, line: HostLine) -> Result<(), HostLine>
+        ensures { IfErr result (λ back. back ≡ line) }
+    {
+        let Some(mut waiting) = self.waiting.try_lock() else {
+            return Err(line);
+        };
+        if waiting.is_over {
+            return Ok(());
         }
+        if waiting.is_full() {
+            return Err(line);
+        }
+        waiting.push(line);
         drop(waiting);
         self.changed.notify_all();
+        Ok(())
     }
 
     /// Waits for lines, and moves all of them into this empty list. Returns `false` if none will follow.
