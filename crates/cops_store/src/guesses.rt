@@ -4,7 +4,7 @@ use crate::rows::{Row, SlotKey};
 use cops_types::{Key, Seeds};
 use indexmap::IndexMap;
 use std::alloc::{AllocError, Global};
-use std::hash::{FoldHasher, Hash, Hasher};
+use std::hash::{FoldHasher, Hasher};
 
 /// The number of cells in a bucket.
 const CELLS: usize = 4;
@@ -35,8 +35,7 @@ pub(crate) struct Place {
 #[inline(always)]
 fn number_of(slot: usize, key: &Key) -> u64 {
     let mut hasher = FoldHasher::default();
-    slot.hash(&mut hasher);
-    key.hash(&mut hasher);
+    key.hash_in(slot as u64, &mut hasher);
     hasher.finish()
 }
 

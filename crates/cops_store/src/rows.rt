@@ -16,34 +16,65 @@ use cops_types::{Key, Record, Seeds};
 use indexmap::map::Entry as Place;
 use indexmap::{Equivalent, IndexMap};
 use std::alloc::{AllocError, Global};
+use std::hash::{Hash, Hasher};
 use std::mem::replace;
 
 /// A key of a slot.
-#[derive(Clone, Copy, Debug, PartialEq, Eq, Hash)]
+#[derive(Clone, Copy, Debug, PartialEq, Eq)]
 pub struct SlotKey {
     pub slot: usize,
     pub key: Key,
 }
 
 /// A key of a slot that is only looked up, and not copied.
-#[derive(Clone, Copy, PartialEq, Eq, Hash)]
+#[derive(Clone, Copy, PartialEq, Eq)]
 pub(crate) struct SlotKeyRef<'a> {
     pub slot: usize,
     pub key: &'a Key,
 }
 
-impl Equivalent<SlotKey> for SlotKeyRef<'_> {
-    ghost use Rattle.std.specs.Prelude.{◌++◌};
-    ghost use Rattle.std.specs.Hash as fed;
+impl Hash for SlotKey {
     ghost use Rattle.std.proofs.Common.{ap};
-    ghost use Rattle.cops_types.specs.KeyHashes.{hashed_cells};
+    ghost use Rattle.cops_types.specs.KeyHashes.{hashed_key_in};
+    ghost use Rattle.cops_store.specs.declared.rows.SlotKey.{SlotKey};
+    ghost use Rattle.cops_store.specs.Places.{same_place_is};
+
+    ghost hash_input = { λ place. hashed_key_in place.slot place.key };
+
+    ghost respects_eq = { λ place other same. ap (λ (p : SlotKey). hashed_key_in p.slot p.key) (same_place_is place other same) };
+
+    #[inline(always)]
+    fn hash<H: Hasher>(&self, state: &mut H) {
+        self.key.hash_in(self.slot as u64, state);
+    }
+}
+
+impl Hash for SlotKeyRef<'_> {
+    ghost use Rattle.std.proofs.Common.{ap};
+    ghost use Rattle.cops_types.specs.KeyHashes.{hashed_key_in};
+    ghost use Rattle.cops_store.specs.declared.rows.SlotKey.{SlotKey};
+    ghost use Rattle.cops_store.specs.Places.{same_place_is};
+
+    ghost hash_input = { λ q. hashed_key_in q.slot q.key.now };
+
+    ghost respects_eq = { λ q other same. ap (λ (p : SlotKey). hashed_key_in p.slot p.key) (same_place_is (record { slot = q.slot; key = q.key.now }) (record { slot = other.slot; key = other.key.now }) same) };
+
+    #[inline(always)]
+    fn hash<H: Hasher>(&self, state: &mut H) {
+        self.key.hash_in(self.slot as u64, state);
+    }
+}
+
+impl Equivalent<SlotKey> for SlotKeyRef<'_> {
+    ghost use Rattle.std.proofs.Common.{ap};
+    ghost use Rattle.cops_types.specs.KeyHashes.{hashed_key_in};
     ghost use Rattle.cops_store.specs.declared.rows.SlotKey.{SlotKey};
     ghost use Rattle.cops_store.specs.Places.{same_place_is};
 
     ghost equivalent = { λ q. same_place (record { slot = q.slot; key = q.key.now }) };
 
     // A copied key of that slot is hashed alike, and is equal to the same ones.
-    ghost respects_hash = { λ q place same. ap (λ (p : SlotKey). fed.usize p.slot ++ hashed_cells p.key) (same_place_is (record { slot = q.slot; key = q.key.now }) place same) };
+    ghost respects_hash = { λ q place same. ap (λ (p : SlotKey). hashed_key_in p.slot p.key) (same_place_is (record { slot = q.slot; key = q.key.now }) place same) };
 
     ghost respects_eq = { λ q place other same. ap (λ (p : SlotKey). same_place p other) (same_place_is (record { slot = q.slot; key = q.key.now }) place same) };
 

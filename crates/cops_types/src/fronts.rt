@@ -1,5 +1,6 @@
 //! The first bytes of texts, compared eight at a time.
 ghost use Rattle.std.specs.Prelude.{◌≡◌, ◌+◌, ◌≤◌, length, take, drop};
+ghost use Rattle.cops_types.specs.KeyHashes.{front_in_slot};
 ghost use Rattle.std.specs.Cmp.Lexicographic.{slice_cmp};
 ghost use Rattle.std.specs.Ordering.{nat_cmp};
 ghost use Rattle.cops_types.specs.BigEndian.{big_endian};
@@ -30,4 +31,16 @@ pub(crate) fn order_of_fronts(cells: &[u8], others: &[u8], second: usize) -> Ord
         Ordering::Equal => word_at(cells, second).cmp(&word_at(others, second)),
         order => order,
     }
+}
+
+/// Returns the first seven bytes of a text, and the low byte of a slot.
+#[inline(always)]
+pub(crate) fn front_in(slot: u64, cells: &[u8]) -> [u8; 8]
+    requires { 8 ≤ length cells.now }
+    ensures { result ≡ front_in_slot slot cells.now }
+{
+    let mut word = [0; 8];
+    word.copy_from_slice(&cells[..8]);
+    word[7] = (slot % 256) as u8;
+    word
 }
