@@ -46,6 +46,7 @@ pub(crate) fn keep(
 }
 
 // Handles a call `Commit`.
+#[inline(always)]
 pub(crate) fn commit(
     alloc: Global,
     home: &Home,

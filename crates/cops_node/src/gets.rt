@@ -23,6 +23,7 @@ fn found(alloc: Global, stored: &Record) -> Result<NodeReply, AllocError>
 }
 
 // Returns a slot's reply for the greatest version of a key.
+#[inline(always)]
 fn latest(alloc: Global, store: &Store, slot: usize, key: &Key) -> Result<Answered, AllocError>
     requires { (tracked : List Tracked) × StandsFor (rows_of slot store.now) tracked }
     ensures told { IfOk result (λ answered. (tracked : List Tracked) → StandsFor (rows_of slot store.now) tracked → answered.told ≡ reply_latest (latest_record key.now tracked)) }
@@ -69,6 +70,7 @@ fn missing(
 }
 
 // Returns a slot's reply for one version of a key.
+#[inline(always)]
 fn exactly(
     alloc: Global,
     store: &Store,
@@ -95,6 +97,7 @@ fn exactly(
 }
 
 // Handles a call `Get`.
+#[inline(always)]
 pub(crate) fn get(
     alloc: Global,
     home: &Home,

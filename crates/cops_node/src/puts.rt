@@ -42,6 +42,7 @@ fn next_version(home: &Home, counters: &Counters, deps: &Deps) -> Result<Version
 }
 
 // Returns the version of a put, or why the put is refused.
+#[inline(always)]
 fn version_for(
     home: &Home,
     terms: &Terms,
@@ -71,6 +72,7 @@ fn version_for(
 }
 
 // Handles a call `Put`.
+#[inline(always)]
 pub(crate) fn put(
     alloc: Global,
     home: &Home,

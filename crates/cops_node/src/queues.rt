@@ -12,6 +12,7 @@ use cops_types::Version;
 use std::alloc::{AllocError, Global};
 
 // Handles a call `Pull`.
+#[inline(always)]
 pub(crate) fn pull(
     alloc: Global,
     outbox: &Outbox,
