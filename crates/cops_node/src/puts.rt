@@ -71,6 +71,37 @@ fn version_for(
     Ok(version)
 }
 
+// Refuses a put. It is apart, so that a put that is stored makes no room for the call.
+#[inline(never)]
+fn refuse(alloc: Global, put: PutParts, fault: Fault) -> Result<Answered, AllocError>
+    ensures told { IfOk result (λ answered. answered.told ≡ NodeReply.Refused fault) }
+    ensures kept { IfOk result (λ answered. answered.kept ≡ record { call = NodeCall.Put put.key put.value put.deps put.near; reply = answered.told }) }
+{
+    let call = NodeCall::Put(put.key, put.value, put.deps, put.near);
+    Answered::refused(alloc, call, fault)
+}
+
+// Returns the entry of a put, with its version and the mark before it.
+#[inline(always)]
+fn entry_of(
+    alloc: Global,
+    put: PutParts,
+    version: Version,
+    prev: Version,
+) -> Result<Entry, AllocError>
+    ensures { IfOk result (λ entry. entry ≡ record { key = put.key; version = version; value = put.value; deps = put.deps; near = put.near; prev = prev }) }
+{
+    let parts = EntryParts {
+        key: put.key,
+        version,
+        value: put.value,
+        deps: put.deps,
+        near: put.near,
+        prev,
+    };
+    Entry::new(alloc, parts)
+}
+
 // Handles a call `Put`.
 #[inline(always)]
 pub(crate) fn put(
@@ -90,25 +121,11 @@ pub(crate) fn put(
 {
     let version = match version_for(home, terms, counters, storage, caller.slot, &put) {
         Ok(version) => version,
-        Err(fault) => {
-            let call = NodeCall::Put(put.key, put.value, put.deps, put.near);
-            let answered = Answered::refused(alloc, call, fault)?;
-            return Ok(answered);
-        }
+        Err(fault) => return refuse(alloc, put, fault),
     };
     let key = put.key;
     let prev = parts::own_mark(home, counters);
-    let entry = Entry::new(
-        alloc,
-        EntryParts {
-            key,
-            version,
-            value: put.value,
-            deps: put.deps,
-            near: put.near,
-            prev,
-        },
-    )?;
+    let entry = entry_of(alloc, put, version, prev)?;
     let shared = entry.copy(alloc)?;
     storage.store.reserve(caller.slot, &key)?;
     match storage.outbox.push(caller.slot, &entry, terms.quota.outbox) {
