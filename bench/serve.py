@@ -51,12 +51,16 @@ def told(line):
 class Service:
     """A running `serve` of one of the two programs. It takes one connection more than the loads make, which ends it."""
 
-    def __init__(self, program, head, workers, connections):
+    def __init__(self, program, head, workers, connections, keeps_input=False):
         self.port = free_port()
         words = [*program.split(), "serve", f"127.0.0.1:{self.port}", "--workers", str(workers), "--connections", str(connections + 1)]
         self.said = tempfile.TemporaryFile()
         with open(head, "rb") as it:
-            self.running = subprocess.Popen(words, stdin=it, stdout=subprocess.DEVNULL, stderr=self.said)
+            given = subprocess.PIPE if keeps_input else it
+            self.running = subprocess.Popen(words, stdin=given, stdout=subprocess.DEVNULL, stderr=self.said)
+            if keeps_input:
+                self.running.stdin.write(it.read())
+                self.running.stdin.flush()
 
     def end(self):
         connect(self.port).close()
@@ -165,6 +169,55 @@ def beside(arguments, room):
         print(f"| {name} | {of(alone, 1)} | {of(flooded, 1)} | {of(alone, 2)} | {of(flooded, 2)} | {ratio:.2f} |", flush=True)
 
 
+def admission_of(head):
+    """The line that admits one more tenant, with the quotas of the first tenant of a head."""
+    with open(head, encoding="ascii") as file:
+        words = next(line.split() for line in file if line.startswith("tenant "))
+    return " ".join(["+", "late", "f" * 32, *words[3:]])
+
+
+def come_and_go(service, head, lives, seconds):
+    """The operator admits and closes a tenant so often, evenly over so many seconds. Returns how many lines were not followed."""
+    pair = f"{admission_of(head)}\n- late\n".encode()
+    batches = 200
+    for _ in range(batches):
+        service.running.stdin.write(pair * (lives // batches))
+        service.running.stdin.flush()
+        time.sleep(seconds / batches)
+    until, said = time.monotonic() + 30, b""
+    while said.count(b"\n- ") < 2 * lives and time.monotonic() < until:
+        time.sleep(0.05)
+        said = os.pread(service.said.fileno(), os.fstat(service.said.fileno()).st_size, 0)
+    return 2 * lives - said.count(b"- admitted late\n") - said.count(b"- closed late\n")
+
+
+def lives_once(room, program, lives):
+    """The latencies of one tenant's requests at depth 1, alone or while the operator admits and closes another one."""
+    service = Service(program, f"{room}/head", 2, 1, keeps_input=True)
+    words = load_words(room, service.port, ["--connections", 1, "--depth", 1, "--reads", 50, "--requests", 100_000])
+    with subprocess.Popen(words, stdout=subprocess.PIPE, text=True) as load:
+        if lives and (lost := come_and_go(service, f"{room}/head", lives, 3)):
+            print(f"({lost} lines of the operator were not followed)", file=sys.stderr)
+        if lives and load.poll() is not None:
+            print("(the load ended too early)", file=sys.stderr)
+        line, _ = load.communicate()
+    service.end()
+    return told(line)[1]
+
+
+def lives(arguments, room):
+    print("| Tenants | p50 µs | p99 | p99.9 |")
+    print("|---|---|---|---|")
+    alone, beside = [], []
+    for number in range(arguments.times):
+        turns = [(alone, 0), (beside, arguments.lives)]
+        for runs, count in turns if number % 2 == 0 else turns[::-1]:
+            runs.append(lives_once(room, arguments.program, count))
+    for name, runs in (("stay", alone), (f"{arguments.lives} admissions and closes", beside)):
+        print(f"| {name} | " + " | ".join(f"{median(it[place] for it in runs):.0f}" for place in (1, 2, 3)) + " |")
+    print(f"| ratio | " + " | ".join(f"{median(b[place] / a[place] for a, b in zip(alone, beside)):.2f}" for place in (1, 2, 3)) + " |", flush=True)
+
+
 def main():
     parser = argparse.ArgumentParser()
     parser.add_argument("program")
@@ -172,17 +225,17 @@ def main():
     parser.add_argument("clients", help="where load and workload are")
     parser.add_argument("--times", type=int, default=5)
     parser.add_argument("--redis", action="store_true")
-    parser.add_argument("--only", choices=("rows", "beside"))
+    parser.add_argument("--lives", type=int, default=10_000, help="how often a tenant comes and goes")
+    parser.add_argument("--only", choices=("rows", "beside", "lives"))
     arguments = parser.parse_args()
     with tempfile.TemporaryDirectory() as room:
         os.symlink(os.path.abspath(f"{arguments.clients}/load"), f"{room}/load")
         with open(f"{room}/head", "wb") as head:
             subprocess.run([f"{arguments.clients}/workload", "serve", "--tenants", "4"], check=True, stdout=head)
-        if arguments.only != "beside":
-            rows(arguments, room)
+        parts = {"rows": rows, "beside": beside, "lives": lives}
+        for part in [arguments.only] if arguments.only else parts:
+            parts[part](arguments, room)
             print()
-        if arguments.only != "rows":
-            beside(arguments, room)
 
 
 main()

@@ -44,7 +44,7 @@ pub served_from : (known : Option (List ℕ)) (config : Config) (nodes : List Sh
     → AreServed known config nodes
 served_from known config nodes head left replays says = record { head = head; left = left; replays = replays; says_same = says_for known config nodes head says }
 
-keeps : (known : Option (List ℕ)) → Keeps known known
+pub keeps : (known : Option (List ℕ)) → Keeps known known
 keeps None = tt
 keeps (Some bytes) = refl
 

@@ -52,7 +52,7 @@ abbrev pub numbered_serve : App
 numbered_serve = with_rule (with_rule (with_rule (new_app (codes "serve")) address) (number (codes "workers") 1 16 (codes "4"))) (number (codes "connections") 1 4294967295 (codes "4294967295"))
 
 abbrev pub serve : App
-serve = with_rule (with_rule numbered_serve (number (codes "idle") 0 4294967295 (codes "0"))) (flag (codes "verbose"))
+serve = with_rule (with_rule (with_rule numbered_serve (number (codes "idle") 0 4294967295 (codes "0"))) (flag (codes "verbose"))) (flag (codes "fixed-tenants"))
 
 -- one of the subcommands has to be named
 abbrev pub with_run : App
@@ -130,6 +130,7 @@ pub record IsServiceIn (rows : List Row) (service : Service) : Type 0 where
   pub connections_are : IsSpelledBy (one_of (codes "connections") rows) service.connections
   pub idle_is : IsSpelledBy (one_of (codes "idle") rows) service.idle
   pub verbose_is : IsFlagged (one_of (codes "verbose") rows) service.is_verbose
+  pub fixed_is : IsFlagged (one_of (codes "fixed-tenants") rows) service.has_fixed_tenants
 
 -- words ask for this service
 pub record IsServedBy (words : List Text) (service : Service) : Type 0 where

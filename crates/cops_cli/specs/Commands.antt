@@ -1,7 +1,8 @@
 -- What each command of `cops` may end with, between a reader and a writer.
-use Rattle.std.specs.Prelude.{◌≡◌, ◌⊎◌, ◌^◌, ⊤, ℕ, List, Option, Some, None, Result, Ok, Err, IfSome}
+use Rattle.std.specs.Prelude.{◌≡◌, ◌⊎◌, ◌^◌, ⊤, ℕ, List, Option, Some, None, Result, Ok, Err, IfSome, Bool, true, false}
 use Rattle.std.specs.Io.KnownBytes.{Appends, IsAtEnd, Keeps}
 use Rattle.cops_types.specs.declared.configs.Config.{Config}
+use Rattle.cops_types.specs.declared.configs.Tenant.{Tenant}
 use Rattle.cops_types.specs.declared.sinks.Sink.{Sink}
 use Rattle.cops_types.specs.declared.sources.Source.{Source}
 use Rattle.cops_types.specs.Counts.{HasRisen, HasRisenBy}
@@ -14,10 +15,12 @@ use Rattle.cops_node.specs.Parts.{Shared}
 use Rattle.cops_script.specs.ScriptRuns.{WritesFront, WritesScript}
 use Rattle.cops_script.specs.SoloRuns.{IsRefusedFor, WritesSolo, WritesSoloFront}
 use Rattle.cops_script.specs.declared.solo_machine.SoloRefusal.TheVariants as solo
+use Rattle.cops_service.specs.HostedLeft.{AreLeftByLives}
 use Rattle.cops_service.specs.Left.{AreLeft}
 use Rattle.cops_replay.specs.AuditRuns.{WritesAudit, WritesAuditFront}
 use Rattle.cops_replay.specs.AuditText.{audit_of, his_nodes}
 use Rattle.cops_replay.specs.MigratedText.{migration_of}
+use Rattle.cops_replay.specs.OpenAudits.{HaveTenants, open_audit_of, open_config_of, open_nodes_of}
 use Rattle.cops_replay.specs.OwnAudits.{RefusesOwnAuditOf, WritesOwnAudit, WritesOwnAuditFront}
 use Rattle.cops_replay.specs.OwnParts.{RefusesPartOf, WritesPart, WritesPartFront}
 use Rattle.cops_replay.specs.ReplayText.{IsReplayOf, RefusesReplayOf, ReplaysFront}
@@ -26,6 +29,7 @@ use Rattle.cops_replay.specs.declared.migrations.MigrationRefusal.TheVariants as
 use Rattle.cops_replay.specs.declared.refusals.PartRefusal.TheVariants as part
 use Rattle.cops_replay.specs.declared.refusals.ReplayRefusal.TheVariants as replay
 use Rattle.cops_cli.specs.CommandLine.{IsAskedBy, IsRefusedAs}
+use Rattle.cops_cli.specs.declared.command_line.Service.{Service}
 use Rattle.cops_cli.specs.declared.command_line.Task.{Task}
 use Rattle.cops_cli.specs.declared.command_line.Task.TheVariants.{Run, Solo, Audit, Replay, Extract, Migrate, Serve}
 use Rattle.cops_cli.specs.declared.faults.CliFault.{CliFault}
@@ -201,6 +205,46 @@ refuses_service old new other = ⊥
 abbrev pub serving : CommandRules
 serving = record { does = WritesServed; begins = WritesServedFront; refuses = refuses_service }
 
+-- the input begins with a head of this configuration, and these are nodes that a service of it leaves whose tenants came and went; they have each of the
+-- open tenants at its slot; a replay of each one's records in their audit finds them all the same, and one of its text says so if the configuration with
+-- the open tenants is that of a head and no record's line is too long
+pub record AreServedByLives (old_remaining : Option (List ℕ)) (config : Config) (tenants : List (Option Tenant)) (nodes : List Shared) : Type 0 where
+  pub head : IfSome old_remaining (λ bytes. (lines : List (List ℕ)) × (head_of (lines_of bytes) ≡ Whole config lines))
+  pub left : AreLeftByLives config nodes
+  pub have : HaveTenants tenants nodes
+  pub replays : AllReplaySame (open_config_of config tenants) (open_nodes_of config tenants nodes)
+  pub says_same : (lines rest : List (List ℕ)) → head_of lines ≡ Whole (open_config_of config tenants) rest → HaveLines (open_config_of config tenants) (open_nodes_of config tenants nodes)
+      → SaysSame (open_config_of config tenants) (open_nodes_of config tenants nodes) (open_audit_of config tenants nodes)
+
+-- the audit of the open tenants of the nodes that are left is written
+abbrev pub WritesServedLives : Streams → Streams → Type 0
+WritesServedLives old new =
+    (config : Config) × (tenants : List (Option Tenant)) × (nodes : List Shared) × AreServedByLives old.remaining config tenants nodes × Appends old.contents new.contents (open_audit_of config tenants nodes)
+
+-- nothing is written, or a prefix of that
+abbrev pub WritesServedLivesFront : Streams → Streams → Type 0
+WritesServedLivesFront old new = Keeps old.contents new.contents
+    ⊎ ((config : Config) × (tenants : List (Option Tenant)) × (nodes : List Shared) × AreServedByLives old.remaining config tenants nodes × AppendsFront old.contents new.contents (open_audit_of config tenants nodes))
+
+-- the same as of a service with fixed tenants; or the nodes that are left lack an open tenant
+abbrev pub refuses_service_of_lives : Streams → Streams → CliFault → Type 0
+refuses_service_of_lives old new (BadHead line) = RefusesAll (HasBadHead line) old new
+refuses_service_of_lives old new ReadFault = RefusesAll HasHead old new ⊎ WritesServedLives old new
+refuses_service_of_lives old new Torn = RefusesAll HasHead old new
+refuses_service_of_lives old new other = ⊥
+
+-- a service for clients whose tenants come and go, and its audit
+abbrev pub serving_lives : CommandRules
+serving_lives = record { does = WritesServedLives; begins = WritesServedLivesFront; refuses = refuses_service_of_lives }
+
+-- with fixed tenants, or with tenants that come and go
+abbrev pub serving_if_fixed : Bool → CommandRules
+serving_if_fixed true = serving
+serving_if_fixed false = serving_lives
+
+abbrev pub serving_as : Service → CommandRules
+serving_as service = serving_if_fixed service.has_fixed_tenants
+
 -- ---- the program
 
 abbrev pub command_of : Task → CommandRules
@@ -211,7 +255,7 @@ command_of (Audit (Some name)) = auditing_alone name.now
 command_of (Replay name) = replaying name.now
 command_of (Extract name) = extracting name.now
 command_of Migrate = migrating
-command_of (Serve service) = serving
+command_of (Serve service) = serving_as service
 
 -- clap refuses the words, or there is no memory for them; nothing is read or written
 pub record RefusesTask (words : List (List ℕ)) (old new : Streams) (ended : CliFault) : Type 0 where

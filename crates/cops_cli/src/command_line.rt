@@ -23,6 +23,8 @@ pub(crate) struct Service<'a> {
     pub(crate) connections: u64,
     pub(crate) idle: u64,
     pub(crate) is_verbose: bool,
+    /// The tenants are those of the head throughout.
+    pub(crate) has_fixed_tenants: bool,
 }
 
 #[derive(Clone, Copy)]
@@ -56,6 +58,8 @@ const CONNECTIONS: &str = "connections";
 const IDLE: &str = "idle";
 
 const VERBOSE: &str = "verbose";
+
+const FIXED_TENANTS: &str = "fixed-tenants";
 
 /// The default number of workers.
 const SOME_WORKERS: u64 = 4;
@@ -241,7 +245,12 @@ fn serve_command<'a>(alloc: Global) -> Result<Command<'a>, AllocError>
     let idle = number_argument(alloc, IDLE, 0, MOST_IDLE, "0", "SECONDS", help);
     let help = "Say on standard error why a connection failed";
     let verbose = flag_argument(alloc, VERBOSE, help);
-    numbered_serve_command(alloc)?.arg(idle)?.arg(verbose)
+    let help = "Keep the head's tenants; of later lines, take 'end' alone";
+    let fixed = flag_argument(alloc, FIXED_TENANTS, help);
+    numbered_serve_command(alloc)?
+        .arg(idle)?
+        .arg(verbose)?
+        .arg(fixed)
 }
 
 /// With one subcommand so far.
@@ -337,6 +346,7 @@ fn service_in<'a>(serve: &ArgMatches<'a>) -> Service<'a>
         connections: number_in(serve, CONNECTIONS, MOST_CONNECTIONS),
         idle: number_in(serve, IDLE, 0),
         is_verbose: serve.get_flag(VERBOSE),
+        has_fixed_tenants: serve.get_flag(FIXED_TENANTS),
     }
 }
 

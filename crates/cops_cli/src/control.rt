@@ -1,4 +1,4 @@
-//! Reads standard input after the head, where the line `end` ends the service.
+//! Reads standard input after the head, on a thread of its own. With the head's tenants alone, the line `end` ends the service.
 ghost use Rattle.std.specs.Prelude.{◌≡◌, IfErr};
 
 use crate::faults::CliFault;
@@ -12,6 +12,50 @@ use std::time::Clock;
 
 /// The line that ends the service.
 const END: [u8; 3] = *b"end";
+
+// ---- any reader of lines
+
+/// Follows the bytes of standard input.
+pub(crate) trait Follows {
+    /// Takes a byte.
+    fn take(&mut self, byte: u8);
+
+    /// Takes the end of the input.
+    fn finish(&mut self);
+}
+
+/// Follows standard input to its end.
+pub(crate) fn follow_all<R: Input, F: Follows>(rt: &R, follower: &mut F) {
+    let mut reader = rt.reader();
+    let mut buffer = [0u8; 256];
+    for _ in 0..u64::MAX {
+        match reader.read(&mut buffer) {
+            Ok(0) => break,
+            Ok(count) => {
+                for byte in &buffer[..count] {
+                    follower.take(*byte);
+                }
+            }
+            Err(error) if error.kind() == ErrorKind::Interrupted => (),
+            Err(_) => break,
+        }
+    }
+    follower.finish();
+}
+
+/// A runtime that is the system's own, which a thread may take along.
+pub(crate) trait Hosted {
+    /// Returns it.
+    fn host(&self) -> HostRuntime;
+}
+
+impl Hosted for HostRuntime {
+    fn host(&self) -> HostRuntime {
+        *self
+    }
+}
+
+// ---- the line `end`
 
 /// The meaning of a line.
 #[derive(Clone, Copy, Debug, PartialEq, Eq)]
@@ -68,49 +112,43 @@ impl Lines {
     }
 }
 
-// Does what a line says.
-fn follow<R: Eprint + Clock>(rt: &R, stop: &Stop, said: Said) {
-    match said {
-        Said::Nothing => (),
-        Said::End => stop.ask(rt),
-        Said::Other(line) => {
-            let _ = eprintln!(rt; "cops: line {line}: only 'end' may follow 'begin'");
+/// Ends a service at the line `end`.
+#[derive(Drop)]
+struct Ending<'a, R> {
+    rt: &'a R,
+    stop: &'a Stop,
+    lines: Lines,
+}
+
+impl<R: Eprint + Clock> Ending<'_, R> {
+    // Does what a line says.
+    fn follow(&self, said: Said) {
+        match said {
+            Said::Nothing => (),
+            Said::End => self.stop.ask(self.rt),
+            Said::Other(line) => {
+                let _ = eprintln!(self.rt; "cops: line {line}: only 'end' may follow 'begin'");
+            }
         }
+    }
+}
+
+impl<R: Eprint + Clock> Follows for Ending<'_, R> {
+    fn take(&mut self, byte: u8) {
+        let said = self.lines.take(byte);
+        self.follow(said);
+    }
+
+    fn finish(&mut self) {
+        let said = self.lines.end();
+        self.follow(said);
     }
 }
 
 // Follows the lines of standard input to its end. So many lines have come before.
 fn follow_lines<R: Input + Eprint + Clock>(rt: &R, stop: &Stop, before: u64) {
-    let mut reader = rt.reader();
-    let mut lines = Lines::new(before);
-    let mut buffer = [0u8; 256];
-    for _ in 0..u64::MAX {
-        match reader.read(&mut buffer) {
-            Ok(0) => break,
-            Ok(count) => {
-                for byte in &buffer[..count] {
-                    let said = lines.take(*byte);
-                    follow(rt, stop, said);
-                }
-            }
-            Err(error) if error.kind() == ErrorKind::Interrupted => (),
-            Err(_) => break,
-        }
-    }
-    let said = lines.end();
-    follow(rt, stop, said);
-}
-
-/// A runtime that is the system's own, which a thread may take along.
-pub(crate) trait Hosted {
-    /// Returns it.
-    fn host(&self) -> HostRuntime;
-}
-
-impl Hosted for HostRuntime {
-    fn host(&self) -> HostRuntime {
-        *self
-    }
+    let lines = Lines::new(before);
+    follow_all(rt, &mut Ending { rt, stop, lines });
 }
 
 /// Starts a thread that follows standard input, of which so many lines have come. Nobody joins it:

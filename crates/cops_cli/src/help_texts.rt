@@ -134,8 +134,14 @@ Example:
 pub(crate) const SERVE_HELP: &str =
     "Reads a head from standard input: the lines of a script up to 'begin'. Then it
 serves clients, who each name one of the tenants by its token. It ends after so
-many connections, or at a line 'end' on standard input, and writes the audit of
-all calls to standard output. The end of standard input ends nothing.
+many connections, or at a line 'end' on standard input. Then it writes the audit
+of the tenants that are open to standard output. The end of standard input ends
+nothing.
+
+Meanwhile it follows lines of standard input. '+ ...' admits a tenant, with the
+words of a tenant's line in the head; '- NAME' closes one, and its connections
+get E02 from then on. Each line gets a line on standard error: '- admitted NAME',
+'- closed NAME', or why it is refused, as '- E28'.
 
 At 'end' it stops accepting. Open connections may finish for as many seconds as
 a connection may be idle, or for 5. A connection is idle if it sends nothing,
@@ -145,7 +151,8 @@ Standard error says where it listens, what it served, and before E26 why.
 
 Status  Standard error              When
 0                                   the audit is written
-1       cops: E19                   a turn of a node was never ended
+1       cops: E19                   a turn of a node was never ended, or the nodes
+                                    lack an open tenant
 1       cops: E23                   out of memory
 1       cops: E26                   standard input or the listener failed, nothing
                                     can listen there, or a thread didn't start

@@ -13,10 +13,12 @@ mod command_line;
 mod control;
 mod faults;
 mod help_texts;
+mod host_input;
 mod moments;
 mod program;
 mod progress;
 mod serve;
+mod serve_lives;
 
 use control::Hosted;
 use cops_types::{Sink, Source};

@@ -1,13 +1,14 @@
 //! The program over any reader and any writer.
 ghost use Rattle.std.specs.Prelude.{◌≡◌, ◌⊎◌, map, IfErr, IsErrAnd};
 ghost use Rattle.cops_cli.specs.CommandLine.{ArePlain};
-ghost use Rattle.cops_cli.specs.Commands.{EndsTask, MayEnd, RefusesTask, answering, answering_alone, auditing, auditing_alone, command_of, extracting, migrating, replaying, streams};
+ghost use Rattle.cops_cli.specs.Commands.{EndsTask, MayEnd, RefusesTask, answering, answering_alone, auditing, auditing_alone, command_of, extracting, migrating, replaying, serving_as, streams};
 ghost use Rattle.cops_cli.specs.Faults.{IsOfWords};
 
-use crate::command_line::{Task, read_words};
+use crate::command_line::{Service, Task, read_words};
 use crate::control::Hosted;
 use crate::faults::CliFault;
 use crate::serve::serve;
+use crate::serve_lives::serve_lives;
 use cops_replay::{audit_part_text, audit_text, extract_text, migrate_text, replay_text};
 use cops_types::{Sink, Source};
 use cops_world::{run_script, solo_script};
@@ -121,6 +122,28 @@ fn migrate<R: Read, O: Write>(
     Ok(())
 }
 
+/// Serves clients: the head's tenants alone, or tenants that come and go.
+fn serve_clients<T, R: Read, O: Write>(
+    rt: &T,
+    alloc: Global,
+    service: &Service<'_>,
+    source: &mut Source<R>,
+    sink: &mut Sink<O>,
+) -> Result<(), CliFault>
+where
+    T: Net<Listener = TcpListener, Stream = TcpStream> + Threads + Wait + Clock + Sync,
+    T: Hosted + Eprint,
+    ensures { MayEnd (serving_as service.now)
+        (streams R.remaining O.contents source.old sink.old)
+        (streams R.remaining O.contents source.new sink.new) result }
+{
+    if service.has_fixed_tenants {
+        serve(rt, alloc, service, source, sink)
+    } else {
+        serve_lives(rt, alloc, service, source, sink)
+    }
+}
+
 /// Runs the command of a task.
 fn perform<T, R: Read, O: Write>(
     rt: &T,
@@ -144,7 +167,7 @@ where
         Task::Replay(tenant) => replay(alloc, source, sink, tenant),
         Task::Extract(tenant) => extract(alloc, source, sink, tenant),
         Task::Migrate => migrate(alloc, source, sink),
-        Task::Serve(service) => serve(rt, alloc, &service, source, sink),
+        Task::Serve(service) => serve_clients(rt, alloc, &service, source, sink),
     }
 }
 

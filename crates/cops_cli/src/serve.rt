@@ -31,9 +31,9 @@ use std::time::Clock;
 
 /// Writes a service's reports to standard error.
 #[derive(Drop)]
-struct Told<'a, R> {
-    rt: &'a R,
-    is_verbose: bool,
+pub(crate) struct Told<'a, R> {
+    pub(crate) rt: &'a R,
+    pub(crate) is_verbose: bool,
 }
 
 impl<R: Eprint> Reports for Told<'_, R> {
@@ -63,14 +63,14 @@ fn text_of(cause: Cause) -> &'static str
 }
 
 /// Says why the head wasn't read.
-fn tell_of_head<R: Eprint>(rt: &R, fault: &RunFault<BadConfig>) {
+pub(crate) fn tell_of_head<R: Eprint>(rt: &R, fault: &RunFault<BadConfig>) {
     if matches!(fault, RunFault::ReadFault) {
         let _ = eprintln!(rt; "cops: cannot read standard input");
     }
 }
 
 /// Listens at the address, and says where.
-fn listen<R>(rt: &R, address: &str) -> Result<TcpListener, CliFault>
+pub(crate) fn listen<R>(rt: &R, address: &str) -> Result<TcpListener, CliFault>
 where
     R: Net<Listener = TcpListener, Stream = TcpStream> + Eprint,
     ensures { IfErr result (λ fault. fault ≡ CliFault.ReadFault) }
@@ -86,8 +86,19 @@ where
 }
 
 /// Returns a value that threads share. Fails with `AllocError` if memory runs out.
-fn shared<T: Drop>(alloc: Global, value: T) -> Result<Arc<T, Global>, AllocError> {
+pub(crate) fn shared<T: Drop>(alloc: Global, value: T) -> Result<Arc<T, Global>, AllocError> {
     Ok(Arc::new(alloc, value)?)
+}
+
+/// Returns what ends the service that listens here.
+pub(crate) fn stop_at<R: Eprint>(rt: &R, listener: &TcpListener) -> Result<Stop, CliFault>
+    ensures { IfErr result (λ fault. fault ≡ CliFault.ReadFault) }
+{
+    let Ok(stop) = Stop::of(listener) else {
+        let _ = eprintln!(rt; "cops: the listener failed");
+        return Err(CliFault::ReadFault);
+    };
+    Ok(stop)
 }
 
 /// Lets a line of standard input end the service that listens here. So many lines have come before.
@@ -101,16 +112,24 @@ where
     R: Threads + Hosted + Eprint,
     ensures { IfErr result (λ fault. (fault ≡ CliFault.OutOfMemory) ⊎ (fault ≡ CliFault.ReadFault)) }
 {
-    let Ok(stop) = Stop::of(listener) else {
-        let _ = eprintln!(rt; "cops: the listener failed");
-        return Err(CliFault::ReadFault);
-    };
+    let stop = stop_at(rt, listener)?;
     let stop = shared(alloc, stop)?;
     if follow_input(rt, &stop, lines).is_err() {
         let _ = eprintln!(rt; "cops: cannot start a thread");
         return Err(CliFault::ReadFault);
     }
     Ok(stop)
+}
+
+/// Returns how the service is run.
+pub(crate) fn options_of(service: &Service<'_>) -> Options
+    ensures { result ≡ record { workers = service.now.workers; connections = service.now.connections; idle = service.now.idle } }
+{
+    Options {
+        workers: service.workers,
+        connections: service.connections,
+        idle: service.idle,
+    }
 }
 
 /// Serves clients at the address. So many lines of standard input have come before.
@@ -133,11 +152,7 @@ where
 {
     let listener = listen(rt, service.address)?;
     let stop = stop_of(rt, alloc, &listener, lines)?;
-    let options = Options {
-        workers: service.workers,
-        connections: service.connections,
-        idle: service.idle,
-    };
+    let options = options_of(service);
     let told = Told {
         rt,
         is_verbose: service.is_verbose,
@@ -145,31 +160,33 @@ where
     let moments = SteadyMoments::new(rt);
     let served = serve_with(rt, alloc, config, &listener, options, &stop, &told, moments);
     match served {
-        Ok(served) => told_end(rt, served),
+        Ok(served) => match told_end(rt, served.end, served.counts) {
+            Ok(()) => Ok(served),
+            Err(fault) => Err(fault),
+        },
         Err(error) => Err(CliFault::of_service(error.told())),
     }
 }
 
 /// Says what was served. Fails if a thread couldn't be started, since nothing was served then.
-fn told_end<R: Eprint>(rt: &R, served: Served) -> Result<Served, CliFault>
-    ensures same { IfOk result (λ told. told ≡ served) }
-    ensures threads { IfOk result (λ told. told.end ≢ ServiceEnd.NoThread) }
-    ensures stopped { IfErr result (λ fault. fault ≡ CliFault.ReadFault) }
+pub(crate) fn told_end<R: Eprint>(rt: &R, end: ServiceEnd, counts: Counts) -> Result<(), CliFault>
+    ensures threads { OnOk result (end ≢ ServiceEnd.NoThread) }
+    ensures stopped { IfErr result (λ fault. (fault ≡ CliFault.ReadFault) × (end ≡ ServiceEnd.NoThread)) }
 {
     let Counts {
         connections,
         requests,
         refused,
-    } = served.counts;
+    } = counts;
     let _ = eprintln!(rt;
         "cops: served {connections} connections, {requests} requests, {refused} refused"
     );
-    match served.end {
+    match end {
         ServiceEnd::NoThread => {
             let _ = eprintln!(rt; "cops: cannot start a thread");
             Err(CliFault::ReadFault)
         }
-        _ => Ok(served),
+        _ => Ok(()),
     }
 }
 

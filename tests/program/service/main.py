@@ -30,6 +30,9 @@ class Timed(unittest.TextTestResult):
 
 def main() -> int:
     words = sys.argv[1:]
+    if words[:1] == ["--fixed-tenants"]:
+        service.FORM[:] = words[:1]
+        del words[0]
     while words[:1] in (["--replay-by"], ["--seconds"]) and len(words) > 2:
         if words[0] == "--seconds":
             service.SECONDS = float(words[1])
@@ -37,7 +40,7 @@ def main() -> int:
             audits.REPLAY[:] = shlex.split(words[1])
         del words[:2]
     if not words or words[0].startswith("-"):
-        print("usage: run [--replay-by COMMAND] [--seconds N] PROGRAM [WORD ..]", file=sys.stderr)
+        print("usage: run [--fixed-tenants] [--replay-by COMMAND] [--seconds N] PROGRAM [WORD ..]", file=sys.stderr)
         return 2
     program = pathlib.Path(words[0])
     service.PROGRAM[:] = [str(program.resolve()) if program.exists() else str(program), *words[1:]]

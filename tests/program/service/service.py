@@ -18,6 +18,9 @@ from cops_client.frames import Decoder, Hello, Message, Ready, encode
 #: The program under test, with the words that come before those of a command.
 PROGRAM: list[str] = []
 
+#: The options that each service is started with.
+FORM: list[str] = []
+
 #: Longest waits, in seconds: for one reply, and for the service to begin or end.
 REPLY_TIME = 30.0
 SERVICE_TIME = 60.0
@@ -109,7 +112,7 @@ class Service:
     def _launch(self, *words: str, **how: object) -> None:
         """Starts the program and writes the head to its standard input."""
         self._files, self._errors = tempfile.TemporaryFile(), tempfile.TemporaryFile()
-        command = [*self._program, "serve", *words]
+        command = [*self._program, "serve", *FORM, *words]
         self._process = subprocess.Popen(command, stdin=subprocess.PIPE, stdout=self._files, stderr=self._errors, **how)
         self.write(self._head.encode())
 

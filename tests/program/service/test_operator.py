@@ -10,7 +10,7 @@ import unittest
 
 from cops_client.frames import CreateContext, GetTrans, Handle, Hello, Put, Ready
 from operated import Operated, wait_until
-from service import PROGRAM, SERVICE_TIME, Service, Tenant, frames, head, messages, read_some, read_to_end, talk
+from service import FORM, PROGRAM, SERVICE_TIME, Service, Tenant, frames, head, messages, read_some, read_to_end, talk
 
 ACME = Tenant("acme", 1)
 HEAD = head([ACME])
@@ -22,7 +22,7 @@ RESETS = socket.SOL_SOCKET, socket.SO_LINGER, b"\1\0\0\0\0\0\0\0"
 
 def run(words: list[str], text: str = HEAD) -> subprocess.CompletedProcess[str]:
     """The program to its end, which it comes to by itself."""
-    command = [*PROGRAM, "serve", *words]
+    command = [*PROGRAM, "serve", *FORM, *words]
     return subprocess.run(command, input=text, capture_output=True, text=True, timeout=SERVICE_TIME)
 
 
@@ -72,7 +72,7 @@ class Lines(unittest.TestCase):
         self.assertEqual((ended.returncode, ended.stdout, ended.stderr), (2, "", "cops: configuration line 1\n"))
 
     def test_no_standard_input(self):
-        command = ["/bin/sh", "-c", 'exec "$@" <&-', "sh", *PROGRAM, "serve", "127.0.0.1:0"]
+        command = ["/bin/sh", "-c", 'exec "$@" <&-', "sh", *PROGRAM, "serve", *FORM, "127.0.0.1:0"]
         ended = subprocess.run(command, capture_output=True, text=True, timeout=SERVICE_TIME)
         self.assertEqual((ended.returncode, ended.stdout, ended.stderr), (1, "", "cops: cannot read standard input\ncops: E26\n"))
 

@@ -8,6 +8,7 @@ use Rattle.cops_cli.proofs.command_line.service_in.Goals as goal
 pub returns : goal.returns
 returns c =
     let rows = one_text-rows (found_of c.args.serve.now) (codes "verbose") in
+    let fixed = one_text-rows (found_of c.args.serve.now) (codes "fixed-tenants") in
     record {
       address_is = ap (λ s. s.now) c.unwrap_or.ensures ∙ unwrap_or-now c.get_str.result _
           ∙ ap (λ (o : Option Text). unwrap_or o []) (c.get_str.ensures ∙ first_value-rows (found_of c.args.serve.now) (codes "ADDRESS"));
@@ -15,4 +16,5 @@ returns c =
       connections_are = c.number_in-2.ensures;
       idle_is = c.number_in-3.ensures;
       verbose_is = (λ found. c.get_flag.ensures.none (rows ∙ found), λ found. c.get_flag.ensures.value (rows ∙ found), λ found. c.get_flag.ensures.other (rows ∙ found));
+      fixed_is = (λ found. c.get_flag-2.ensures.none (fixed ∙ found), λ found. c.get_flag-2.ensures.value (fixed ∙ found), λ found. c.get_flag-2.ensures.other (fixed ∙ found));
     }

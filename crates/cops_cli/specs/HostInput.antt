@@ -1,0 +1,26 @@
+-- The host's lines on the standard input of a service.
+use Rattle.std.specs.Prelude.{ℕ, nat_lt, if◌then◌else◌, List, [], ◌∷◌, ◌++◌, codes, length, Option, Some, None}
+use Rattle.std.specs.Option.{option_map_or}
+use Rattle.std.specs.Str.{bytes_eq}
+use Rattle.cops_script.specs.HostLines.{admitted_in, closed_in}
+use Rattle.cops_service.specs.declared.host_lines.HostLine.{HostLine}
+use Rattle.cops_service.specs.declared.host_lines.HostLine.TheVariants.{Admit, Close, Unknown, End}
+
+-- the line asks for the end, or is a line of the host as scripts have it
+abbrev pub host_line : List ℕ → HostLine
+host_line line = if bytes_eq line (codes "end") then End else option_map_or Admit (admitted_in line) (option_map_or Close (closed_in line) Unknown)
+
+-- the most bytes of a line that are kept
+abbrev pub longest : ℕ
+longest = 256
+
+-- a line with one byte more; none if it is longer than what is kept
+abbrev pub with_byte : ℕ → Option (List ℕ) → Option (List ℕ)
+with_byte byte None = None
+with_byte byte (Some line) = if nat_lt (length line) longest then Some (line ++ byte ∷ []) else None
+
+-- what a whole line says; an empty one says nothing
+abbrev pub line_said : Option (List ℕ) → Option HostLine
+line_said None = Some Unknown
+line_said (Some []) = None
+line_said (Some (byte ∷ line)) = Some (host_line (byte ∷ line))
