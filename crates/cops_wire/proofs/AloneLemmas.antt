@@ -40,19 +40,19 @@ all_after P (x ∷ xs) ys p q = (p.0, all_after P xs ys p.1 q)
 -- ---- one call
 
 -- The reply is that of the tenant's own node, behind calls between of this kind; or one of the refusals that are left out.
-pub record IsOwnTurn {N : Type 0} (config : TenantConfig) (nodes_at : N → List SoloNode) (IsFrameThere : N → Type 0) (Between : List OwnCall → Type 0) (lost : Fault → Bool)
+pub record IsOwnTurn {N : Type 0} (config : TenantConfig) (nodes_at : N → List SoloNode) (IsThere : N → Type 0) (Between : List OwnCall → Type 0) (lost : Fault → Bool)
     (id : NodeId) (moment : ℕ) (call : NodeCall) (reply : NodeReply) (old new : N) : Type 0 where
   pub turn : ((fault : Fault) × (lost fault ≡ true) × (reply ≡ node_reply.Refused fault))
       ⊎ ((between : List OwnCall) × Between between × (reply ≡ (call_alone config id moment call (after_calls config between (nodes_at old))).reply)
       × (nodes_at new ≡ after_call config id moment call (after_calls config between (nodes_at old))))
-  pub there : IsFrameThere new
+  pub there : IsThere new
 
 -- ---- steps
 
 module _ {N M : Type 0} (Calls : N → NodeId → ℕ → ℕ → NodeCall → NodeReply → N → Type 0) (Gives : M → ℕ → M → Type 0) (config : TenantConfig) (slot : ℕ)
-    (nodes_at : N → List SoloNode) (IsFrameThere : N → Type 0) (Between : List OwnCall → Type 0) (none : Between []) (lost : Fault → Bool) (lost_memory : lost OutOfMemory ≡ true)
-    (own : (id : NodeId) (moment : ℕ) (call : NodeCall) (reply : NodeReply) (old new : N) → (0 < config.shards → id.shard < config.shards) → IsFrameThere old → Calls old id slot moment call reply new
-    → IsOwnTurn config nodes_at IsFrameThere Between lost id moment call reply old new) where
+    (nodes_at : N → List SoloNode) (IsThere : N → Type 0) (Between : List OwnCall → Type 0) (none : Between []) (lost : Fault → Bool) (lost_memory : lost OutOfMemory ≡ true)
+    (own : (id : NodeId) (moment : ℕ) (call : NodeCall) (reply : NodeReply) (old new : N) → (0 < config.shards → id.shard < config.shards) → IsThere old → Calls old id slot moment call reply new
+    → IsOwnTurn config nodes_at IsThere Between lost id moment call reply old new) where
   abbrev At : Type 0
   At = Backend Session N M
 
@@ -70,7 +70,7 @@ module _ {N M : Type 0} (Calls : N → NodeId → ℕ → ℕ → NodeCall → N
   pub record IsStepAlone (session : Session) (running : Running) (moment : ℕ) (old : N) (n : Next Answer) (shown : Progress) (after : Session) (new : N) : Type 0 where
     pub alone : IsLost shown
         ⊎ ((between : List OwnCall) × Between between × (does_alone config session running moment (after_calls config between (nodes_at old)) n ≡ as_taken shown after new))
-    pub there : IsFrameThere new
+    pub there : IsThere new
 
   shown_alone : (session : Session) (running : Running) (step : LogStep) (shown : Progress) (after : Session) (nodes : List SoloNode) → HasShown config session running step shown after
       → (shown ≡ Done (answer.Refused OutOfMemory)) ⊎ (stepped config session running step nodes ≡ record { shown = shown; session = after; nodes = nodes })
@@ -84,7 +84,7 @@ module _ {N M : Type 0} (Calls : N → NodeId → ℕ → ℕ → NodeCall → N
       by_cause (inr lack) = inl lack
 
   step_is : (session : Session) (running : Running) (moment : ℕ) (old new : N) (shown : Progress) (after : Session) (n : Next Answer) → next config (request_of session running) running.log moment ≡ n
-      → IsFrameThere old → DoesNext Calls Gives config slot session running moment old n shown after new → IsStepAlone session running moment old n shown after new
+      → IsThere old → DoesNext Calls Gives config slot session running moment old n shown after new → IsStepAlone session running moment old n shown after new
   step_is session running moment old new shown after (Call directed) is there d =
       let turn = own directed.node moment directed.call d.0 old new (next_has config (request_of session running) running.log moment directed is) there d.1 in
       record { alone = by_turn turn.turn; there = turn.there }
@@ -118,7 +118,7 @@ module _ {N M : Type 0} (Calls : N → NodeId → ℕ → ℕ → NodeCall → N
             )
           ]
   step_is session running moment old new shown after Restart is there d =
-      let same : IsFrameThere new = subst IsFrameThere (sym d.0) there in
+      let same : IsThere new = subst IsThere (sym d.0) there in
       let shows = shown_alone session running (record { moment = moment; outcome = Late }) shown after (nodes_at new) d.1 in
       record {
         alone = elim shows [
@@ -138,7 +138,7 @@ module _ {N M : Type 0} (Calls : N → NodeId → ℕ → ℕ → NodeCall → N
     pub between : AreBetween given
     pub alone : ((fault : Fault) × (lost fault ≡ true) × (ended ≡ answer.Refused fault))
         ⊎ ((tail : List Given) → steps_alone config (given ++ tail) old.session (nodes_at old.nodes) ≡ Some (record { answer = ended; after = backend new.session (nodes_at new.nodes) tail }))
-    pub there : IsFrameThere new.nodes
+    pub there : IsThere new.nodes
 
   abbrev given_so : ℕ → List OwnCall → Given
   given_so moment before = record { moment = moment; before = before }
@@ -146,7 +146,7 @@ module _ {N M : Type 0} (Calls : N → NodeId → ℕ → ℕ → NodeCall → N
   done_is : (a b : Answer) → Done a ≡ Done b → a ≡ b
   done_is a b e = cc
 
-  ends_alone : (steps : ℕ) (old : At) (ended : Answer) (new : At) → IsFrameThere old.nodes → EndsAfter Calls Gives config slot steps old ended new → IsEndAlone old ended new
+  ends_alone : (steps : ℕ) (old : At) (ended : Answer) (new : At) → IsThere old.nodes → EndsAfter Calls Gives config slot steps old ended new → IsEndAlone old ended new
   ends_alone zero old ended new there s =
       let is = step_is old.session s.running (moment_at s.given old.session) old.nodes new.nodes (Done ended) new.session (next config (request_of old.session s.running) s.running.log (moment_at s.given old.session)) refl there s.does in
       elim is.alone [
@@ -204,7 +204,7 @@ module _ {N M : Type 0} (Calls : N → NodeId → ℕ → ℕ → NodeCall → N
     pub between : AreBetween given
     pub alone : (tells lost reply ≡ true)
         ⊎ ((tail : List Given) → answer_alone config (backend old.session (nodes_at old.nodes) (given ++ tail)) request ≡ Some (record { reply = reply; after = backend new.session (nodes_at new.nodes) tail }))
-    pub there : IsFrameThere new.nodes
+    pub there : IsThere new.nodes
 
   abbrev told_as : Message → At → List Given → Option ReplyAlone
   told_as reply new tail = Some (record { reply = reply; after = backend new.session (nodes_at new.nodes) tail })
@@ -212,7 +212,7 @@ module _ {N M : Type 0} (Calls : N → NodeId → ℕ → ℕ → NodeCall → N
   -- a refusal, which changes nothing
   refused_at_once : (request : Message) (fault : Fault) (old : At) (reply : Message) (new : At)
       → ((tail : List Given) → answer_alone config (backend old.session (nodes_at old.nodes) tail) request ≡ Some (record { reply = message.Refused fault; after = backend old.session (nodes_at old.nodes) tail }))
-      → IsFrameThere old.nodes → reply ≡ message.Refused fault → new ≡ old → IsReplyAlone old request reply new
+      → IsThere old.nodes → reply ≡ message.Refused fault → new ≡ old → IsReplyAlone old request reply new
   refused_at_once request fault old reply new is there r n = record {
     given = [];
     are = ap (λ (b : At). b.moments) n;
@@ -220,14 +220,14 @@ module _ {N M : Type 0} (Calls : N → NodeId → ℕ → ℕ → NodeCall → N
     alone = inr λ tail.
         is tail ∙ ap (λ r. let a : ReplyAlone = record { reply = r; after = backend old.session (nodes_at old.nodes) tail } in Some a) (sym r)
         ∙ ap (λ (b : At). told_as reply b tail) (sym n);
-    there = subst (λ (b : At). IsFrameThere b.nodes) (sym n) there;
+    there = subst (λ (b : At). IsThere b.nodes) (sym n) there;
   }
 
   -- a refusal, or an effect at once
   at_once : (request : Message) (refusal : Option Fault) (old : At) (after : Session) (told reply : Message) (new : At)
       → ((tail : List Given) → answer_alone config (backend old.session (nodes_at old.nodes) tail) request
       ≡ unless_told refusal (backend old.session (nodes_at old.nodes) tail) (Some (record { reply = told; after = backend after (nodes_at old.nodes) tail })))
-      → IsFrameThere old.nodes → UnlessRefused Calls Gives config slot refusal old reply new (Becomes Calls Gives config slot old after told reply new) → IsReplyAlone old request reply new
+      → IsThere old.nodes → UnlessRefused Calls Gives config slot refusal old reply new (Becomes Calls Gives config slot old after told reply new) → IsReplyAlone old request reply new
   at_once request (Some fault) old after told reply new is there h = refused_at_once request fault old reply new is there h.0 h.1
   at_once request None old after told reply new is there h = record {
     given = [];
@@ -236,14 +236,14 @@ module _ {N M : Type 0} (Calls : N → NodeId → ℕ → ℕ → NodeCall → N
     alone = inr λ tail.
         is tail ∙ ap (λ r. let a : ReplyAlone = record { reply = r; after = backend after (nodes_at old.nodes) tail } in Some a) (sym h.0)
         ∙ ap (λ (b : At). told_as reply b tail) (sym h.1);
-    there = subst (λ (b : At). IsFrameThere b.nodes) (sym h.1) there;
+    there = subst (λ (b : At). IsThere b.nodes) (sym h.1) there;
   }
 
   -- a refusal, or a request that runs
   by_steps : (request : Message) (refusal : Option Fault) (old : At) (context : ℕ) (action : Action) (reply : Message) (new : At)
       → ((given : List Given) → answer_alone config (backend old.session (nodes_at old.nodes) given) request
       ≡ unless_told refusal (backend old.session (nodes_at old.nodes) given) (replied (steps_alone config given (request_begun context action old.session) (nodes_at old.nodes))))
-      → IsFrameThere old.nodes → UnlessRefused Calls Gives config slot refusal old reply new (Runs Calls Gives config slot old context action reply new) → IsReplyAlone old request reply new
+      → IsThere old.nodes → UnlessRefused Calls Gives config slot refusal old reply new (Runs Calls Gives config slot old context action reply new) → IsReplyAlone old request reply new
   by_steps request (Some fault) old context action reply new is there h = refused_at_once request fault old reply new is there h.0 h.1
   by_steps request None old context action reply new is there h =
       let end = ends_alone h.2.0 (backend (request_begun context action old.session) old.nodes old.moments) h.0 new there h.2.1 in
@@ -261,7 +261,7 @@ module _ {N M : Type 0} (Calls : N → NodeId → ℕ → ℕ → NodeCall → N
         there = end.there;
       }
 
-  reply_is : (request : Message) (old : At) (reply : Message) (new : At) → IsFrameThere old.nodes → AnswersSo Calls Gives config slot old request reply new → IsReplyAlone old request reply new
+  reply_is : (request : Message) (old : At) (reply : Message) (new : At) → IsThere old.nodes → AnswersSo Calls Gives config slot old request reply new → IsReplyAlone old request reply new
   reply_is CreateContext old reply new there h = at_once CreateContext _ old _ _ reply new (λ tail. refl) there h
   reply_is (DeleteContext handle) old reply new there h = at_once (DeleteContext handle) _ old _ _ reply new (λ tail. refl) there h
   reply_is (Put handle key value) old reply new there h = by_steps (Put handle key value) _ old _ _ reply new (λ tail. refl) there h
@@ -278,7 +278,7 @@ module _ {N M : Type 0} (Calls : N → NodeId → ℕ → ℕ → NodeCall → N
     pub told : (tail : List Given) → replies ≡ replies_alone config requests (backend old.session (nodes_at old.nodes) (given ++ tail))
     pub left : (tail : List Given) → left_alone config requests (backend old.session (nodes_at old.nodes) (given ++ tail)) ≡ Some (backend new.session (nodes_at new.nodes) tail)
 
-  replies_are : (requests replies : List Message) (old new : At) → IsFrameThere old.nodes → Serves (Answers Calls Gives config slot) old requests replies new → TellNone lost replies → AreRepliesAlone requests replies old new
+  replies_are : (requests replies : List Message) (old new : At) → IsThere old.nodes → Serves (Answers Calls Gives config slot) old requests replies new → TellNone lost replies → AreRepliesAlone requests replies old new
   replies_are [] replies old new there h spared = record {
     given = [];
     are = ap (λ (b : At). b.moments) h.1;
@@ -308,7 +308,7 @@ module _ {N M : Type 0} (Calls : N → NodeId → ℕ → ℕ → NodeCall → N
       ]
 
   -- the replies are those alone, and each call between is of this kind
-  pub told_alone : (requests replies : List Message) (old new : At) → IsFrameThere old.nodes → Serves (Answers Calls Gives config slot) old requests replies new → TellNone lost replies
+  pub told_alone : (requests replies : List Message) (old new : At) → IsThere old.nodes → Serves (Answers Calls Gives config slot) old requests replies new → TellNone lost replies
       → (alone : IsConnectionToldAlone Gives config nodes_at old requests replies new) × AreBetween alone.given
   told_alone requests replies old new there served spared =
       let all = replies_are requests replies old new there served spared in (

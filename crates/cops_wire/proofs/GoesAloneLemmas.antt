@@ -40,14 +40,14 @@ has_room_in config id nodes = IsTrue (nat_lt (length (slice_index_or nodes (node
 
 -- Behind calls between of this kind, the reply is that of the tenant's own node; or memory was refused, for a call that the audit has room
 -- for, and nothing changed.
-pub record IsOwnCall {N : Type 0} (config : TenantConfig) (nodes_at : N → List SoloNode) (IsFrameThere : N → Type 0) (Between : List OwnCall → Type 0)
+pub record IsOwnCall {N : Type 0} (config : TenantConfig) (nodes_at : N → List SoloNode) (IsThere : N → Type 0) (Between : List OwnCall → Type 0)
     (id : NodeId) (moment : ℕ) (call : NodeCall) (reply : NodeReply) (old new : N) : Type 0 where
   pub between : List OwnCall
   pub kind : Between between
   pub turn : let nodes = after_calls config between (nodes_at old) in
       ((reply ≡ node_reply.Refused OutOfMemory) × has_room_in config id nodes × (nodes_at new ≡ nodes))
       ⊎ ((reply ≡ (call_alone config id moment call nodes).reply) × (nodes_at new ≡ after_call config id moment call nodes))
-  pub there : IsFrameThere new
+  pub there : IsThere new
 
 -- nothing changes if a request isn't begun
 unchanged : (config : TenantConfig) (request : Message) (old : Alone) → LacksAlone config old request old
@@ -56,9 +56,9 @@ unchanged config (GetTrans handle keys) old = inl refl
 unchanged config others old = refl
 
 module _ {N M : Type 0} (Calls : N → NodeId → ℕ → ℕ → NodeCall → NodeReply → N → Type 0) (Gives : M → ℕ → M → Type 0) (config : TenantConfig) (slot : ℕ)
-    (nodes_at : N → List SoloNode) (IsFrameThere : N → Type 0) (Between : List OwnCall → Type 0) (none : Between [])
-    (own : (id : NodeId) (moment : ℕ) (call : NodeCall) (reply : NodeReply) (old new : N) → (0 < config.shards → id.shard < config.shards) → IsFrameThere old → Calls old id slot moment call reply new
-    → IsOwnCall config nodes_at IsFrameThere Between id moment call reply old new) where
+    (nodes_at : N → List SoloNode) (IsThere : N → Type 0) (Between : List OwnCall → Type 0) (none : Between [])
+    (own : (id : NodeId) (moment : ℕ) (call : NodeCall) (reply : NodeReply) (old new : N) → (0 < config.shards → id.shard < config.shards) → IsThere old → Calls old id slot moment call reply new
+    → IsOwnCall config nodes_at IsThere Between id moment call reply old new) where
   abbrev At : Type 0
   At = Backend Session N M
 
@@ -79,7 +79,7 @@ module _ {N M : Type 0} (Calls : N → NodeId → ℕ → ℕ → NodeCall → N
     kind : Between between
     alone : (does_alone config session running (moment_at given session) (after_calls config between (nodes_at old)) n ≡ as_taken shown after new)
         ⊎ ((shown ≡ Done (answer.Refused OutOfMemory)) × StopsAlone config (given_so given between) session (nodes_at old) after (nodes_at new))
-    there : IsFrameThere new
+    there : IsThere new
 
   stepped_is : (session : Session) (running : Running) (step : LogStep) (shown : Progress) (after : Session) (nodes : List SoloNode) → shown ≡ progress config (request_of session running) running.log step →
       after ≡ session_after session running step shown → stepped config session running step nodes ≡ record { shown = shown; session = after; nodes = nodes }
@@ -95,7 +95,7 @@ module _ {N M : Type 0} (Calls : N → NodeId → ℕ → ℕ → NodeCall → N
     step reply = record { moment = at; outcome = Replied reply }
 
     called : (d : Directed) (reply : NodeReply) → next config (request_of session running) running.log at ≡ Call d → HasShown config session running (step reply) shown after →
-        IsOwnCall config nodes_at IsFrameThere Between d.node at d.call reply old new → IsStep session running given old (Call d) shown after new
+        IsOwnCall config nodes_at IsThere Between d.node at d.call reply old new → IsStep session running given old (Call d) shown after new
     called d reply calls has turn = record { between = turn.between; kind = turn.kind; alone = by_turn turn.turn; there = turn.there }
       where
         nodes : List SoloNode
@@ -158,7 +158,7 @@ module _ {N M : Type 0} (Calls : N → NodeId → ℕ → ℕ → NodeCall → N
           | inr lack ↦ inr (dropped lack turned changed)
         ]
 
-    late : new ≡ old → HasShown config session running (record { moment = at; outcome = Late }) shown after → IsFrameThere old → IsStep session running given old Restart shown after new
+    late : new ≡ old → HasShown config session running (record { moment = at; outcome = Late }) shown after → IsThere old → IsStep session running given old Restart shown after new
     late stays has there = record {
       between = [];
       kind = none;
@@ -169,10 +169,10 @@ module _ {N M : Type 0} (Calls : N → NodeId → ℕ → ℕ → NodeCall → N
             )
         | inr lack ↦ absurd (late_stops config session running at running.action (has.wants lack))
       ];
-      there = subst IsFrameThere (sym stays) there;
+      there = subst IsThere (sym stays) there;
     }
 
-    step_is : (n : Next Answer) → next config (request_of session running) running.log at ≡ n → IsFrameThere old → DoesNext Calls Gives config slot session running at old n shown after new → IsStep session running given old n shown after new
+    step_is : (n : Next Answer) → next config (request_of session running) running.log at ≡ n → IsThere old → DoesNext Calls Gives config slot session running at old n shown after new → IsStep session running given old n shown after new
     step_is (Call d) is there does =
         called d does.0 is does.2 (own d.node at d.call does.0 old new (next_has config (request_of session running) running.log at d is) there does.1)
     step_is Restart is there does = late does.0 does.1 there
@@ -186,7 +186,7 @@ module _ {N M : Type 0} (Calls : N → NodeId → ℕ → ℕ → NodeCall → N
     between : AreBetween given
     alone : ((tail : List Given) → steps_alone config (given ++ tail) old.session (nodes_at old.nodes) ≡ Some (record { answer = ended; after = backend new.session (nodes_at new.nodes) tail }))
         ⊎ ((ended ≡ answer.Refused OutOfMemory) × ((tail : List Given) → RequestStops config (given ++ tail) old.session (nodes_at old.nodes) (backend new.session (nodes_at new.nodes) tail)))
-    there : IsFrameThere new.nodes
+    there : IsThere new.nodes
 
   done_is : (a b : Answer) → Done a ≡ Done b → a ≡ b
   done_is a b e = cc
@@ -197,7 +197,7 @@ module _ {N M : Type 0} (Calls : N → NodeId → ℕ → ℕ → NodeCall → N
   goes_further (Restarted times) goes session nodes given = refl
   goes_further (Done answer) goes session nodes given = absurd goes
 
-  ends : (steps : ℕ) (old : At) (ended : Answer) (new : At) → IsFrameThere old.nodes → EndsAfter Calls Gives config slot steps old ended new → IsEnd old ended new
+  ends : (steps : ℕ) (old : At) (ended : Answer) (new : At) → IsThere old.nodes → EndsAfter Calls Gives config slot steps old ended new → IsEnd old ended new
   ends zero old ended new there s =
       let is = step_is old.session s.running s.given s.runs old.nodes new.nodes (Done ended) new.session (next config (request_of old.session s.running) s.running.log (moment_at s.given old.session)) refl there s.does in
       record {
@@ -246,7 +246,7 @@ module _ {N M : Type 0} (Calls : N → NodeId → ℕ → ℕ → NodeCall → N
     are : AreGiven Gives old.moments given new.moments
     between : AreBetween given
     alone : (tail : List Given) → TurnsAlone config (backend old.session (nodes_at old.nodes) (given ++ tail)) request reply (backend new.session (nodes_at new.nodes) tail)
-    there : IsFrameThere new.nodes
+    there : IsThere new.nodes
 
   abbrev alone_at : At → List Given → Alone
   alone_at b tail = backend b.session (nodes_at b.nodes) tail
@@ -255,14 +255,14 @@ module _ {N M : Type 0} (Calls : N → NodeId → ℕ → ℕ → NodeCall → N
   told_as reply new tail = Some (record { reply = reply; after = alone_at new tail })
 
   -- at once: no step was taken
-  settled : (request : Message) (old : At) (reply : Message) (new after : At) → ((tail : List Given) → TurnsAlone config (alone_at old tail) request reply (alone_at after tail)) → IsFrameThere old.nodes →
+  settled : (request : Message) (old : At) (reply : Message) (new after : At) → ((tail : List Given) → TurnsAlone config (alone_at old tail) request reply (alone_at after tail)) → IsThere old.nodes →
       after.nodes ≡ old.nodes → after.moments ≡ old.moments → new ≡ after → IsReply old request reply new
   settled request old reply new after turns there nodes moments is = record {
     given = [];
     are = ap (λ (b : At). b.moments) is ∙ moments;
     between = tt;
     alone = λ tail. subst (λ (b : At). TurnsAlone config (alone_at old tail) request reply (alone_at b tail)) (sym is) (turns tail);
-    there = subst (λ (b : At). IsFrameThere b.nodes) (sym is) (subst IsFrameThere (sym nodes) there);
+    there = subst (λ (b : At). IsThere b.nodes) (sym is) (subst IsThere (sym nodes) there);
   }
 
   told_so : (request : Message) (told reply : Message) (old : Alone) (after : Alone) → answer_alone config old request ≡ Some (record { reply = told; after = after }) → reply ≡ told → TurnsAlone config old request reply after
@@ -271,7 +271,7 @@ module _ {N M : Type 0} (Calls : N → NodeId → ℕ → ℕ → NodeCall → N
   -- a refusal, or an effect at once
   at_once : (request : Message) (refusal : Option Fault) (old : At) (after : Session) (told reply : Message) (new : At)
       → ((tail : List Given) → answer_alone config (alone_at old tail) request ≡ unless_told refusal (alone_at old tail) (Some (record { reply = told; after = backend after (nodes_at old.nodes) tail })))
-      → IsFrameThere old.nodes → UnlessRefused Calls Gives config slot refusal old reply new (Becomes Calls Gives config slot old after told reply new) → IsReply old request reply new
+      → IsThere old.nodes → UnlessRefused Calls Gives config slot refusal old reply new (Becomes Calls Gives config slot old after told reply new) → IsReply old request reply new
   at_once request (Some fault) old after told reply new is there h = settled request old reply new old (λ tail. told_so request (message.Refused fault) reply (alone_at old tail) (alone_at old tail) (is tail) h.0) there refl refl h.1
   at_once request None old after told reply new is there h =
       settled request old reply new (backend after old.nodes old.moments) (λ tail. told_so request told reply (alone_at old tail) (backend after (nodes_at old.nodes) tail) (is tail) h.0) there refl refl h.1
@@ -281,7 +281,7 @@ module _ {N M : Type 0} (Calls : N → NodeId → ℕ → ℕ → NodeCall → N
       → ((given : List Given) → answer_alone config (alone_at old given) request
       ≡ unless_told refusal (alone_at old given) (replied (steps_alone config given (request_begun context action old.session) (nodes_at old.nodes))))
       → ((given : List Given) (after : Alone) → RequestStops config given (request_begun context action old.session) (nodes_at old.nodes) after → LacksAlone config (alone_at old given) request after)
-      → IsFrameThere old.nodes → UnlessRefused Calls Gives config slot refusal old reply new (Runs Calls Gives config slot old context action reply new) → IsReply old request reply new
+      → IsThere old.nodes → UnlessRefused Calls Gives config slot refusal old reply new (Runs Calls Gives config slot old context action reply new) → IsReply old request reply new
   by_steps request (Some fault) old context action reply new is stopped there h =
       settled request old reply new old (λ tail. told_so request (message.Refused fault) reply (alone_at old tail) (alone_at old tail) (is tail) h.0) there refl refl h.1
   by_steps request None old context action reply new is stopped there (ended, reply_is, (steps, goes)) =
@@ -297,14 +297,14 @@ module _ {N M : Type 0} (Calls : N → NodeId → ℕ → ℕ → NodeCall → N
         there = end.there;
       }
 
-  reply_so : (request : Message) (old : At) (reply : Message) (new : At) → IsFrameThere old.nodes → AnswersSo Calls Gives config slot old request reply new → IsReply old request reply new
+  reply_so : (request : Message) (old : At) (reply : Message) (new : At) → IsThere old.nodes → AnswersSo Calls Gives config slot old request reply new → IsReply old request reply new
   reply_so CreateContext old reply new there h = at_once CreateContext _ old _ _ reply new (λ tail. refl) there h
   reply_so (DeleteContext handle) old reply new there h = at_once (DeleteContext handle) _ old _ _ reply new (λ tail. refl) there h
   reply_so (Put handle key value) old reply new there h = by_steps (Put handle key value) _ old _ _ reply new (λ tail. refl) (λ given after stops. inr stops) there h
   reply_so (GetTrans handle keys) old reply new there h = by_steps (GetTrans handle keys) _ old _ _ reply new (λ tail. refl) (λ given after stops. inr stops) there h
   reply_so others old reply new there h = absurd h
 
-  reply_is : (request : Message) (old : At) (reply : Message) (new : At) → IsFrameThere old.nodes → Answers Calls Gives config slot old request reply new → IsReply old request reply new
+  reply_is : (request : Message) (old : At) (reply : Message) (new : At) → IsThere old.nodes → Answers Calls Gives config slot old request reply new → IsReply old request reply new
   reply_is request old reply new there (inl (lack, stays)) = settled request old reply new old (λ tail. inr (lack, unchanged config request (alone_at old tail))) there refl refl stays
   reply_is request old reply new there (inr so) = reply_so request old reply new there so
 
@@ -316,7 +316,7 @@ module _ {N M : Type 0} (Calls : N → NodeId → ℕ → ℕ → NodeCall → N
     between : AreBetween given
     goes : (tail : List Given) → Serves (TurnsAlone config) (alone_at old (given ++ tail)) requests replies (alone_at new tail)
 
-  replies_are : (requests replies : List Message) (old new : At) → IsFrameThere old.nodes → Serves (Answers Calls Gives config slot) old requests replies new → AreReplies requests replies old new
+  replies_are : (requests replies : List Message) (old new : At) → IsThere old.nodes → Serves (Answers Calls Gives config slot) old requests replies new → AreReplies requests replies old new
   replies_are [] replies old new there (no_reply, stays) = record {
     given = [];
     are = ap (λ (b : At). b.moments) stays;
@@ -341,7 +341,7 @@ module _ {N M : Type 0} (Calls : N → NodeId → ℕ → ℕ → NodeCall → N
       }
 
   -- the replies are those alone, and each call between is of this kind
-  pub goes_alone : (requests replies : List Message) (old new : At) → IsFrameThere old.nodes → Serves (Answers Calls Gives config slot) old requests replies new
+  pub goes_alone : (requests replies : List Message) (old new : At) → IsThere old.nodes → Serves (Answers Calls Gives config slot) old requests replies new
       → (alone : GoesAlone Gives config nodes_at old requests replies new) × AreBetween alone.given
   goes_alone requests replies old new there served =
       let all = replies_are requests replies old new there served in (

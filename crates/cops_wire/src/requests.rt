@@ -10,7 +10,8 @@ ghost use Rattle.cops_session.specs.SessionStands.{SessionStandsFor};
 ghost use Rattle.cops_wire.specs.declared.messages.Message.{Message};
 ghost use Rattle.cops_wire.specs.Fitting.{CanBeWritten};
 ghost use Rattle.cops_wire.specs.Reading.{put_message_of};
-ghost use Rattle.cops_wire.specs.Requests.{KeepsShape, HasAnswered, backend, deletion_refusal, naming_refusal, number_in, reading_refusal, writing_refusal};
+ghost use Rattle.cops_wire.specs.Clients.{IsSameClient, client_backend};
+ghost use Rattle.cops_wire.specs.Requests.{KeepsShape, HasAnswered, deletion_refusal, naming_refusal, number_in, reading_refusal, writing_refusal};
 ghost use Rattle.cops_wire.specs.Running.{AreKeysOf, Asks, HasRun, IsRequestDone, PutsFrame};
 ghost use Rattle.cops_wire.specs.Spelling.{spelling};
 ghost use Rattle.cops_handles.specs.Wire.{wire_of};
@@ -143,104 +144,101 @@ fn begin_get(
     Ok(())
 }
 
-/// Takes the steps of a request that was begun, and appends its reply, or why it was not begun.
-fn run<N: Nodes, M: Moments>(
-    session: &mut Session,
-    nodes: &mut N,
-    moments: &mut M,
-    begun: Result<(), RequestError>,
-    out: &mut Vec<u8>,
-) -> Result<(), AllocError>
-    requires fits { IsOfSizes (N.shape nodes.old).data_centres (N.shape nodes.old).shards
-        session.old.setting }
-    ensures ran { HasRun (KeepsShape N.shape N.Answers) M.Gives
-        (backend session.old nodes.old moments.old) begun
-        (backend session.new nodes.new moments.new) (PutsFrame result out.old.items out.new.items) }
-    ensures setting { session.new.setting ≡ session.old.setting }
-    ensures shape { N.shape nodes.new ≡ N.shape nodes.old }
-{
-    match begun {
-        Ok(()) => finish(session, nodes, moments, out),
-        Err(error) => push_failure(out, error),
+/// A session, and what its requests are answered from.
+#[derive(Drop)]
+pub(crate) struct Client<'a, N, M> {
+    pub session: &'a mut Session,
+    pub nodes: &'a mut N,
+    pub moments: &'a mut M,
+}
+
+impl<N: Nodes, M: Moments> Client<'_, N, M> {
+    /// Takes the steps of a request that was begun, and appends its reply, or why it was not begun.
+    fn run(&mut self, begun: Result<(), RequestError>, out: &mut Vec<u8>) -> Result<(), AllocError>
+        requires fits { IsOfSizes (N.shape self.old.nodes.now).data_centres
+            (N.shape self.old.nodes.now).shards self.old.session.now.setting }
+        ensures ran { HasRun (KeepsShape N.shape N.Answers) M.Gives
+            (client_backend self.old) begun (client_backend self.new)
+            (PutsFrame result out.old.items out.new.items) }
+        ensures same { IsSameClient self.old self.new }
+        ensures setting { self.new.session.now.setting ≡ self.old.session.now.setting }
+        ensures shape { N.shape self.new.nodes.now ≡ N.shape self.old.nodes.now }
+    {
+        match begun {
+            Ok(()) => finish(self.session, self.nodes, self.moments, out),
+            Err(error) => push_failure(out, error),
+        }
     }
-}
 
-/// Answers a put as `answer` does.
-fn answer_put<N: Nodes, M: Moments>(
-    alloc: Global,
-    session: &mut Session,
-    nodes: &mut N,
-    moments: &mut M,
-    put: PutParts,
-    out: &mut Vec<u8>,
-) -> Result<(), AllocError>
-    requires fits { IsOfSizes (N.shape nodes.old).data_centres (N.shape nodes.old).shards
-        session.old.setting }
-    ensures answered { (reply : Message)
-        × HasAnswered (KeepsShape N.shape N.Answers) M.Gives
-        (backend session.old nodes.old moments.old) (put_message_of put.entry) reply
-        (backend session.new nodes.new moments.new)
-        × PutsFrame result out.old.items out.new.items reply }
-    ensures setting { session.new.setting ≡ session.old.setting }
-    ensures shape { N.shape nodes.new ≡ N.shape nodes.old }
-{
-    let begun = begin_put(alloc, session, &put.handle, put.key, put.value);
-    run(session, nodes, moments, begun, out)
-}
+    /// Answers a put as `answer` does.
+    fn put(&mut self, alloc: Global, put: PutParts, out: &mut Vec<u8>) -> Result<(), AllocError>
+        requires fits { IsOfSizes (N.shape self.old.nodes.now).data_centres
+            (N.shape self.old.nodes.now).shards self.old.session.now.setting }
+        ensures answered { (reply : Message)
+            × HasAnswered (KeepsShape N.shape N.Answers) M.Gives
+            (client_backend self.old) (put_message_of put.entry) reply (client_backend self.new)
+            × PutsFrame result out.old.items out.new.items reply }
+        ensures same { IsSameClient self.old self.new }
+        ensures setting { self.new.session.now.setting ≡ self.old.session.now.setting }
+        ensures shape { N.shape self.new.nodes.now ≡ N.shape self.old.nodes.now }
+    {
+        let begun = begin_put(alloc, self.session, &put.handle, put.key, put.value);
+        self.run(begun, out)
+    }
 
-/// Answers a get transaction over the keys that were made of its lists, as `answer` does.
-fn answer_get<N: Nodes, M: Moments>(
-    session: &mut Session,
-    nodes: &mut N,
-    moments: &mut M,
-    handle: &[u8; 9],
-    made: Result<(), RequestError>,
-    keys: &[Key],
-    out: &mut Vec<u8>,
-) -> Result<(), AllocError>
-    requires fits { IsOfSizes (N.shape nodes.old).data_centres (N.shape nodes.old).shards
-        session.old.setting }
-    ensures answered { (lists : List (List ℕ)) → AreKeysOf lists made keys.now → (reply : Message)
-        × HasAnswered (KeepsShape N.shape N.Answers) M.Gives
-        (backend session.old nodes.old moments.old) (Message.GetTrans handle.now lists) reply
-        (backend session.new nodes.new moments.new)
-        × PutsFrame result out.old.items out.new.items reply }
-    ensures setting { session.new.setting ≡ session.old.setting }
-    ensures shape { N.shape nodes.new ≡ N.shape nodes.old }
-{
-    let begun = begin_get(session, handle, made, keys);
-    run(session, nodes, moments, begun, out)
-}
+    /// Answers a get transaction over the keys that were made of its lists, as `answer` does.
+    fn get(
+        &mut self,
+        handle: &[u8; 9],
+        made: Result<(), RequestError>,
+        keys: &[Key],
+        out: &mut Vec<u8>,
+    ) -> Result<(), AllocError>
+        requires fits { IsOfSizes (N.shape self.old.nodes.now).data_centres
+            (N.shape self.old.nodes.now).shards self.old.session.now.setting }
+        ensures answered { (lists : List (List ℕ)) → AreKeysOf lists made keys.now →
+            (reply : Message)
+            × HasAnswered (KeepsShape N.shape N.Answers) M.Gives
+            (client_backend self.old) (Message.GetTrans handle.now lists) reply
+            (client_backend self.new)
+            × PutsFrame result out.old.items out.new.items reply }
+        ensures same { IsSameClient self.old self.new }
+        ensures setting { self.new.session.now.setting ≡ self.old.session.now.setting }
+        ensures shape { N.shape self.new.nodes.now ≡ N.shape self.old.nodes.now }
+    {
+        let begun = begin_get(self.session, handle, made, keys);
+        self.run(begun, out)
+    }
 
-/// Answers a request and appends its reply. The keys are those of a get transaction.
-///
-/// On `Err` nothing was appended; the request may still have taken effect.
-pub(crate) fn answer<N: Nodes, M: Moments>(
-    alloc: Global,
-    session: &mut Session,
-    nodes: &mut N,
-    moments: &mut M,
-    request: Request,
-    keys: &[Key],
-    out: &mut Vec<u8>,
-) -> Result<(), AllocError>
-    requires fits { IsOfSizes (N.shape nodes.old).data_centres (N.shape nodes.old).shards
-        session.old.setting }
-    ensures answered { (message : Message) → Asks request.entry keys.now message → (reply : Message)
-        × HasAnswered (KeepsShape N.shape N.Answers) M.Gives
-        (backend session.old nodes.old moments.old) message reply
-        (backend session.new nodes.new moments.new)
-        × PutsFrame result out.old.items out.new.items reply }
-    ensures setting { session.new.setting ≡ session.old.setting }
-    ensures shape { N.shape nodes.new ≡ N.shape nodes.old }
-{
-    match request {
-        Request::Create => match create(session) {
-            Ok(reply) => encode(&reply, out),
-            Err(error) => push_failure(out, RequestError::from(error)),
-        },
-        Request::Delete(handle) => encode(&delete(session, &handle), out),
-        Request::Put(put) => answer_put(alloc, session, nodes, moments, put, out),
-        Request::Get(handle, made) => answer_get(session, nodes, moments, &handle, made, keys, out),
+    /// Answers a request and appends its reply. The keys are those of a get transaction.
+    ///
+    /// On `Err` nothing was appended; the request may still have taken effect.
+    pub(crate) fn answer(
+        &mut self,
+        alloc: Global,
+        request: Request,
+        keys: &[Key],
+        out: &mut Vec<u8>,
+    ) -> Result<(), AllocError>
+        requires fits { IsOfSizes (N.shape self.old.nodes.now).data_centres
+            (N.shape self.old.nodes.now).shards self.old.session.now.setting }
+        ensures answered { (message : Message) → Asks request.entry keys.now message →
+            (reply : Message)
+            × HasAnswered (KeepsShape N.shape N.Answers) M.Gives
+            (client_backend self.old) message reply (client_backend self.new)
+            × PutsFrame result out.old.items out.new.items reply }
+        ensures same { IsSameClient self.old self.new }
+        ensures setting { self.new.session.now.setting ≡ self.old.session.now.setting }
+        ensures shape { N.shape self.new.nodes.now ≡ N.shape self.old.nodes.now }
+    {
+        match request {
+            Request::Create => match create(self.session) {
+                Ok(reply) => encode(&reply, out),
+                Err(error) => push_failure(out, RequestError::from(error)),
+            },
+            Request::Delete(handle) => encode(&delete(self.session, &handle), out),
+            Request::Put(put) => self.put(alloc, put, out),
+            Request::Get(handle, made) => self.get(&handle, made, keys, out),
+        }
     }
 }

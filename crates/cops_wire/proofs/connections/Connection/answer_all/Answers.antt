@@ -4,6 +4,7 @@ use Rattle.cops_types.proofs.CountLemmas.{HasRisenBy-start, HasRisenBy-next}
 use Rattle.cops_types.specs.Source.{source_reader}
 use Rattle.cops_wire.specs.Greeting.{CameBytes}
 use Rattle.cops_wire.specs.Requests.{KeepsShape, HasAnswered}
+use Rattle.cops_wire.proofs.ClientLemmas.{same_itself, same_then}
 use Rattle.cops_wire.proofs.AnsweredRequests.{map_err, on_err}
 use Rattle.cops_wire.proofs.AskedLemmas.{nil_if, not_nil}
 use Rattle.cops_wire.proofs.ServedLemmas.{ends_clean, ends_inside, goes_by, goes_on_by, served_start, stops_between, stops_by, torn_by, torn_if, torn_told, torn_told_in_part}
@@ -17,6 +18,7 @@ loop-init g c = record {
   write_failures = refl;
   setting = refl;
   shape = refl;
+  same = same_itself _;
 }
 
 pub returns-in_err-taken-clause-front : goal.returns-in_err-taken-clause-front
@@ -74,5 +76,6 @@ loop-preserved g c = record {
   read_failures = c.in_ok-count.ensures.failures ∙ c.loop.invariant.read_failures;
   write_failures = c.in_ok-taken.ensures.same ∙ c.loop.invariant.write_failures;
   setting = c.answer_bytes.ensures.setting ∙ c.loop.invariant.setting;
+  same = same_then _ _ _ c.loop.invariant.same c.answer_bytes.ensures.same_client;
   shape = c.answer_bytes.ensures.shape ∙ c.loop.invariant.shape;
 }

@@ -3,16 +3,18 @@ use Rattle.std.proofs.lemmas.List.{take_rest}
 use Rattle.cops_types.specs.Sink.{sink_failures, sink_writer}
 use Rattle.cops_wire.specs.Requests.{KeepsShape, HasAnswered, backend}
 use Rattle.cops_wire.specs.Streams.{first_frame}
+use Rattle.cops_wire.proofs.ClientLemmas.{same_itself, same_then}
 use Rattle.cops_wire.proofs.AnsweredRequests.{on_err}
 use Rattle.cops_wire.proofs.WalkLemmas.{walk_begins, walk_kept, walk_sent, walk_unanswered, walk_unsent, walked_broken, walked_other, walked_partial, walked_whole}
 use Rattle.cops_wire.proofs.serving.Responder.answer_frames.Goals as goal
 
 pub loop-body-init : goal.loop-body-init
 loop-body-init g c = record {
-  walked = walk_begins (HasAnswered (KeepsShape g.N.Nodes.shape g.N.Nodes.Answers) g.M.Moments.Gives) c.args.bytes.now (backend c.args.session.now c.args.nodes.now c.args.moments.now) (g.W.Write.contents (sink_writer c.args.self.now.sink)) c.args.self.now.out.items;
+  walked = walk_begins (HasAnswered (KeepsShape g.N.Nodes.shape g.N.Nodes.Answers) g.M.Moments.Gives) c.args.bytes.now (backend c.args.client.now.session.now c.args.client.now.nodes.now c.args.client.now.moments.now) (g.W.Write.contents (sink_writer c.args.self.now.sink)) c.args.self.now.out.items;
   failures = refl;
   setting = refl;
   shape = refl;
+  same = same_itself _;
 }
 
 pub returns-in-Partial-clause-ok : goal.returns-in-Partial-clause-ok
@@ -54,5 +56,6 @@ loop-body-preserved g c =
       walked = walk_sent (HasAnswered (KeepsShape g.N.Nodes.shape g.N.Nodes.Answers) g.M.Moments.Gives) c.args.bytes.now _ _ _ _ _ _ _ _ _ on.walked c.in_ok-send-in-Whole.ensures.sent;
       failures = c.in_ok-send-in-Whole.ensures.same ∙ ap sink_failures c.answer_body.ensures.sink ∙ c.loop-body.invariant.failures;
       setting = c.answer_body.ensures.setting ∙ c.loop-body.invariant.setting;
+      same = same_then _ _ _ c.loop-body.invariant.same c.answer_body.ensures.same_client;
       shape = c.answer_body.ensures.shape ∙ c.loop-body.invariant.shape;
     }
