@@ -3,7 +3,7 @@ use Rattle.std.proofs.Common.{◌≡◌, ℕ, ◌<◌, ◌≤◌, Bool, true, fa
 use Rattle.std.specs.Prelude.{nat_lt, Option, Some, None}
 use Rattle.std.proofs.lemmas.Bool.Decides.{nat_tests}
 use Rattle.cops_service.specs.declared.host_lines.HostLine.TheVariants.{Unknown}
-use Rattle.cops_cli.specs.HostInput.{host_line, line_said, longest, with_byte}
+use Rattle.cops_cli.specs.HostInput.{meaning_of_line, line_said, longest, with_byte}
 
 -- a byte comes to a line with room
 pub room_for_byte : (long : Bool) (line : List ℕ) (byte : ℕ) → length line < 256 → cond long None (Some (line ++ byte ∷ [])) ≡ with_byte byte (cond long None (Some line))
@@ -29,7 +29,7 @@ pub said_none : (long : Bool) (line : List ℕ) → long ≡ false → line ≡ 
 said_none false line is none = sym (ap (λ (bytes : List ℕ). line_said (Some bytes)) none)
 said_none true line is none = absurd cc
 
-pub said_some : (long : Bool) (line : List ℕ) → long ≡ false → (line ≡ [] → ⊥) → Some (host_line line) ≡ line_said (cond long None (Some line))
+pub said_some : (long : Bool) (line : List ℕ) → long ≡ false → (line ≡ [] → ⊥) → Some (meaning_of_line line) ≡ line_said (cond long None (Some line))
 said_some false [] is some = absurd (some refl)
 said_some false (byte ∷ line) is some = refl
 said_some true line is some = absurd cc

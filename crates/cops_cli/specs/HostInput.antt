@@ -7,8 +7,8 @@ use Rattle.cops_service.specs.declared.host_lines.HostLine.{HostLine}
 use Rattle.cops_service.specs.declared.host_lines.HostLine.TheVariants.{Admit, Close, Unknown, End}
 
 -- the line asks for the end, or is a line of the host as scripts have it
-abbrev pub host_line : List ℕ → HostLine
-host_line line = if bytes_eq line (codes "end") then End else option_map_or Admit (admitted_in line) (option_map_or Close (closed_in line) Unknown)
+abbrev pub meaning_of_line : List ℕ → HostLine
+meaning_of_line line = if bytes_eq line (codes "end") then End else option_map_or Admit (admitted_in line) (option_map_or Close (closed_in line) Unknown)
 
 -- the most bytes of a line that are kept
 abbrev pub longest : ℕ
@@ -23,4 +23,4 @@ with_byte byte (Some line) = if nat_lt (length line) longest then Some (line ++ 
 abbrev pub line_said : Option (List ℕ) → Option HostLine
 line_said None = Some Unknown
 line_said (Some []) = None
-line_said (Some (byte ∷ line)) = Some (host_line (byte ∷ line))
+line_said (Some (byte ∷ line)) = Some (meaning_of_line (byte ∷ line))

@@ -1,7 +1,7 @@
 //! Reads the host's lines on standard input after the head, and hands them on to a running service.
 ghost use Rattle.std.specs.Prelude.{◌≡◌, ◌⊎◌, ◌≤◌, [], IfErr, IfOk, Some};
 ghost use Rattle.std.specs.Vec.{vec_capacity};
-ghost use Rattle.cops_cli.specs.HostInput.{host_line, line_said, longest, with_byte};
+ghost use Rattle.cops_cli.specs.HostInput.{meaning_of_line, line_said, longest, with_byte};
 
 use crate::control::{Follows, Hosted, follow_all};
 use crate::faults::CliFault;
@@ -22,7 +22,7 @@ const PAUSE: u64 = 1;
 
 /// Returns the meaning of a line.
 fn read_host_line(line: &[u8]) -> HostLine
-    ensures { result ≡ host_line line.now }
+    ensures { result ≡ meaning_of_line line.now }
 {
     if line == b"end".as_slice() {
         return HostLine::End;
