@@ -1,8 +1,10 @@
 //! Runs of events of tenants who come and go.
-ghost use Rattle.std.specs.Prelude.{◌≡◌, IfOk, IsTrue, length};
+ghost use Rattle.std.specs.Prelude.{◌≡◌, ◌<◌, IfOk, IsTrue, length};
 ghost use Rattle.std.specs.List.{AllByRecursion};
+ghost use Rattle.cops_types.specs.declared.configs.Config.{Config};
 ghost use Rattle.cops_types.specs.HeadLines.{is_tenant};
 ghost use Rattle.cops_types.specs.OpenSlots.{open_at};
+ghost use Rattle.cops_script.specs.Acting.{IsNew};
 ghost use Rattle.cops_script.specs.Answers.{ToHost};
 ghost use Rattle.cops_script.specs.Doing.{IsDone, IsHosted};
 ghost use Rattle.cops_script.specs.GoodHeads.{is_good};
@@ -87,6 +89,26 @@ fn happen(world: &mut World, event: &HostEvent) -> LifeReply
     }
 }
 
+/// Applies events in a world, and returns a reply to each. Fails with `AllocError` if there is no memory
+/// for the list of replies.
+fn happen_all(
+    alloc: Global,
+    world: &mut World,
+    events: &[HostEvent],
+) -> Result<Vec<LifeReply>, AllocError>
+    requires { AllByRecursion IsWithinLimits events.now }
+    ensures length { IfOk result (λ told. length told.items ≡ length events.now) }
+    ensures lives { IfOk result (λ told. (config : Config) → 0 < config.shards → IsNew open_setup HasOpenCluster config world.old → TellsLives config events.now told.items) }
+    ensures alone { IfOk result (λ told. (config : Config) → 0 < config.shards → IsNew open_setup HasOpenCluster config world.old → AreLivedAlone config events.now told.items) }
+{
+    let mut told = Vec::with_capacity(alloc, events.len())?;
+    for event in events {
+        let reply = happen(world, event);
+        told.push(reply)?;
+    }
+    Ok(told)
+}
+
 /// Applies events in a new world of a configuration, whose tenants come and go, and returns a reply to
 /// each. The main theorem holds of each life: from the head or an admission to the next close of the
 /// slot. Fails with `AllocError` if there is no memory for the world or the list of replies.
@@ -102,10 +124,7 @@ pub fn run_lives(
     ensures alone { IfOk result (λ told. AreLivedAlone config events.now told.items) }
 {
     let mut world = World::new(alloc, config)?;
-    let mut told = Vec::with_capacity(alloc, events.len())?;
-    for event in events {
-        let reply = happen(&mut world, event);
-        told.push(reply)?;
-    }
-    Ok(told)
+    let told = happen_all(alloc, &mut world, events);
+    drop(world);
+    told
 }

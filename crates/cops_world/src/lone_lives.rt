@@ -1,16 +1,20 @@
 //! The lives of one slot, each in a world of its own.
-ghost use Rattle.std.specs.Prelude.{◌≡◌, List, IfOk, IfSome, IsFalse, IsTrue, OnOk, length, map};
+ghost use Rattle.std.specs.Prelude.{◌≡◌, ◌++◌, ◌∷◌, [], List, IfOk, IfSome, IsFalse, IsTrue, OnOk, length, map};
 ghost use Rattle.std.specs.List.{AllByRecursion, list_any};
 ghost use Rattle.cops_types.specs.declared.configs.Config.{Config};
+ghost use Rattle.cops_types.specs.declared.configs.Tenant.{Tenant};
 ghost use Rattle.cops_types.specs.HeadLines.{is_tenant};
 ghost use Rattle.cops_model.specs.declared.replies.Reply.{Reply};
 ghost use Rattle.cops_model.specs.Events.{IsSpared};
 ghost use Rattle.cops_model.specs.MainTheorem.{with_tenant_alone};
+ghost use Rattle.cops_script.specs.Acting.{IsNew};
 ghost use Rattle.cops_script.specs.GoodHeads.{is_good};
 ghost use Rattle.cops_script.specs.Said.{tenants_after};
 ghost use Rattle.cops_world.specs.declared.host_runs.HostEvent.{HostEvent};
 ghost use Rattle.cops_world.specs.declared.host_runs.LifeReply.{LifeReply};
+ghost use Rattle.cops_world.specs.declared.lone_lives.LoneLife.{LoneLife};
 ghost use Rattle.cops_world.specs.HostRuns.{IsWithinLimits, said_of};
+ghost use Rattle.cops_world.specs.Worlds.{HasOpenCluster, open_setup};
 ghost use Rattle.cops_world.specs.SlotLives.{AllPaired, IsGivenTo, IsLivedAlone, Life, events_heard, given_by, lacks_memory, life_of, lives_at, replies_heard};
 
 use crate::{Doing, HostEvent, Reply, World};
@@ -25,18 +29,17 @@ pub struct LoneLife {
     pub told: Vec<Reply>,
 }
 
-/// Returns the replies to a tenant, in a world of its own, that gets the slot before these events.
-fn live_alone(
+/// Returns the replies of a world's only tenant to the acts of a slot in these events, up to the next
+/// close. Fails with `AllocError` if memory runs out.
+fn live_in(
     alloc: Global,
-    config: &Config,
+    world: &mut World,
     slot: u64,
-    tenant: &Tenant,
     events: &[HostEvent],
 ) -> Result<Vec<Reply>, AllocError>
-    requires { IsTrue (is_good (with_tenant_alone config.now tenant.now)) }
-    ensures { IfOk result (λ told. IsLivedAlone config.now (life_of slot events.now tenant.now) told.items) }
+    ensures { IfOk result (λ told. (config : Config) (tenant : Tenant) → IsTrue (is_good (with_tenant_alone config tenant)) → IsNew open_setup HasOpenCluster (with_tenant_alone config tenant) world.old →
+        IsLivedAlone config (life_of slot events.now tenant) told.items) }
 {
-    let mut world = World::new(alloc, with_tenant_alone(alloc, config, tenant)?)?;
     let mut told = Vec::new(alloc);
     for event in events {
         if event.slot == slot {
@@ -48,6 +51,45 @@ fn live_alone(
         }
     }
     Ok(told)
+}
+
+/// Returns the replies to a tenant, in a world of its own, that gets the slot before these events.
+fn live_alone(
+    alloc: Global,
+    config: &Config,
+    slot: u64,
+    tenant: &Tenant,
+    events: &[HostEvent],
+) -> Result<Vec<Reply>, AllocError>
+    requires { IsTrue (is_good (with_tenant_alone config.now tenant.now)) }
+    ensures { IfOk result (λ told. IsLivedAlone config.now (life_of slot events.now tenant.now) told.items) }
+{
+    let alone = with_tenant_alone(alloc, config, tenant)?;
+    let mut world = World::new(alloc, alone)?;
+    let told = live_in(alloc, &mut world, slot, events);
+    drop(world);
+    told
+}
+
+/// Appends the life of a tenant that gets the slot before these events. Fails with `AllocError` if there
+/// is no memory for its world or for the life.
+fn add_life(
+    alloc: Global,
+    lives: &mut Vec<LoneLife>,
+    config: &Config,
+    slot: u64,
+    tenant: &Tenant,
+    events: &[HostEvent],
+) -> Result<(), AllocError>
+    requires { IsTrue (is_good (with_tenant_alone config.now tenant.now)) }
+    ensures { OnOk result ((life : LoneLife) × (life.tenant ≡ tenant.now) × IsLivedAlone config.now (life_of slot events.now tenant.now) life.told.items × (lives.new.items ≡ lives.old.items ++ life ∷ [])) }
+{
+    let told = live_alone(alloc, config, slot, tenant, events)?;
+    lives.push(LoneLife {
+        tenant: *tenant,
+        told,
+    })?;
+    Ok(())
 }
 
 /// Gives the slot to the tenant, and returns `true`; or `false` if it may not be admitted.
@@ -106,16 +148,18 @@ pub fn solo_lives(
     let mut tenants = OpenTenants::of(alloc, &config.tenants)?;
     let mut lives = Vec::new(alloc);
     if let Some(tenant) = tenants.tenant(slot) {
-        let told = live_alone(alloc, config, slot, tenant, events)?;
-        lives.push(LoneLife {
-            tenant: *tenant,
-            told,
-        })?;
+        add_life(alloc, &mut lives, config, slot, tenant, events)?;
     }
     for (place, event) in events.iter().enumerate() {
         if let Some(tenant) = admitted_to(&mut tenants, slot, event)? {
-            let told = live_alone(alloc, config, slot, &tenant, &events[place + 1..])?;
-            lives.push(LoneLife { tenant, told })?;
+            add_life(
+                alloc,
+                &mut lives,
+                config,
+                slot,
+                &tenant,
+                &events[place + 1..],
+            )?;
         }
     }
     Ok(lives)

@@ -3,7 +3,7 @@ ghost use Rattle.std.specs.Prelude.{◌≡◌, ◌<◌, ℕ, All, IfOk, IsTrue, 
 ghost use Rattle.cops_model.specs.Events.{config_at, own, replies};
 ghost use Rattle.cops_model.specs.Cluster.{SoloCluster, new_cluster};
 ghost use Rattle.cops_model.specs.Goes.{Goes};
-ghost use Rattle.cops_model.specs.Setups.{new_setup};
+ghost use Rattle.cops_model.specs.Setups.{config_in, new_setup};
 ghost use Rattle.cops_model.specs.MainTheorem.{IsCausalRun, MainTheorem};
 ghost use Rattle.cops_script.specs.GoodHeads.{is_good};
 ghost use Rattle.cops_world.specs.Worlds.{HasOpenCluster, open_setup};
@@ -40,7 +40,30 @@ pub fn run(alloc: Global, config: Config, events: &[Event]) -> Result<Vec<Reply>
     ensures length { IfOk result (λ told. length told.items ≡ length events.now) }
     ensures theorem { IfOk result (λ told. MainTheorem config events.now told.items) }
 {
-    let (_world, told) = run_world(alloc, config, events)?;
+    let mut world = World::new(alloc, config)?;
+    let told = run_all(alloc, &mut world, events);
+    drop(world);
+    told
+}
+
+/// Returns the replies of the tenant in slot 0 of a world to the events of a slot, in order. Fails with
+/// `AllocError` if memory runs out.
+fn answer_own(
+    alloc: Global,
+    world: &mut World,
+    slot: u64,
+    events: &[Event],
+) -> Result<Vec<Reply>, AllocError>
+    ensures length { IfOk result (λ told. length told.items ≡ length (own slot events.now)) }
+    ensures run { IfOk result (λ told. (cluster : SoloCluster) → HasOpenCluster world.old 0 cluster →
+        (left : SoloCluster) × Goes (config_in world.old.setup 0) (own slot events.now) told.items cluster left) }
+{
+    let mut told = Vec::new(alloc);
+    for event in events {
+        if event.slot == slot {
+            told.push(as_reply(world.act(0, &event.act)))?;
+        }
+    }
     Ok(told)
 }
 
@@ -58,11 +81,7 @@ pub fn solo(
 {
     let alone = with_tenant_alone(alloc, config, config.tenants.tenant(slot))?;
     let mut world = World::new(alloc, alone)?;
-    let mut told = Vec::new(alloc);
-    for event in events {
-        if event.slot == slot {
-            told.push(as_reply(world.act(0, &event.act)))?;
-        }
-    }
-    Ok(told)
+    let told = answer_own(alloc, &mut world, slot, events);
+    drop(world);
+    told
 }
