@@ -22,18 +22,20 @@ use Rattle.cops_wire.specs.declared.messages.Message.TheVariants.{CreateContext,
 use Rattle.cops_wire.specs.Requests.{Answers, AnswersSo, Backend, Becomes, DoesNext, EndsAfter, KeepsShape, Runs, Steps, UnlessRefused, backend, number_in}
 use Rattle.cops_wire.specs.Serving.{Serves}
 use Rattle.cops_service.specs.Calling.{CollectAll}
-use Rattle.cops_service.specs.Carried.{DeliverAll, DeliversSome, TakesSteps, carried_stream}
+use Rattle.cops_service.specs.Carried.{DeliverAll, DeliversSome, DeliversStream, TakesSteps, carried_stream}
 use Rattle.cops_service.specs.Conversing.{ConverseAll, Converses}
 use Rattle.cops_service.specs.Crews.{CarriesStreams, CollectsPlaces, ServesClients}
 use Rattle.cops_service.specs.Desks.{IsDeskCall, NodeSeat, shape_in}
 use Rattle.cops_service.specs.Gates.{Gates}
+use Rattle.cops_service.specs.Repeated.{Repeats}
+use Rattle.cops_service.specs.declared.notes.Stream.{Stream as Noted}
 
 -- Each call at the nodes is one with their seat, where the key stays. `Tells` says what a call with a seat may be answered.
 module _ {N K S : Type 0} (Calls : N → NodeId → ℕ → ℕ → NodeCall → NodeReply → N → Type 0) (Tells : K → S → NodeId → ℕ → ℕ → NodeCall → NodeReply → S → Type 0) (key : N → K) (seat : N → S)
     (stays : (old new : N) (id : NodeId) (slot moment : ℕ) (call : NodeCall) (reply : NodeReply) → Calls old id slot moment call reply new → key new ≡ key old)
     (tells : (old new : N) (id : NodeId) (slot moment : ℕ) (call : NodeCall) (reply : NodeReply) → Calls old id slot moment call reply new → Tells (key old) (seat old) id slot moment call reply (seat new))
     (here : K) where
-  call_there : (old new : N) (id : NodeId) (slot moment : ℕ) (call : NodeCall) (reply : NodeReply) → key old ≡ here → Calls old id slot moment call reply new → (key new ≡ here) × Tells here (seat old) id slot moment call reply (seat new)
+  pub call_there : (old new : N) (id : NodeId) (slot moment : ℕ) (call : NodeCall) (reply : NodeReply) → key old ≡ here → Calls old id slot moment call reply new → (key new ≡ here) × Tells here (seat old) id slot moment call reply (seat new)
   call_there old new id slot moment call reply is called =
       (stays old new id slot moment call reply called ∙ is, subst (λ k. Tells k (seat old) id slot moment call reply (seat new)) is (tells old new id slot moment call reply called))
 
@@ -54,6 +56,20 @@ module _ {N K S : Type 0} (Calls : N → NodeId → ℕ → ℕ → NodeCall →
       let first = steps_there shards slot count old between before middle is earlier in
       let last = call_there between new directed.node slot (max middle.moment moment) directed.call reply first.0 called in
       (last.0, (seat between, middle, first.1, (directed, moment, reply, asked, last.1, after_is)))
+
+  pub stream_delivered_there : (shards : ℕ) (stream : Noted) (old new : N) → key old ≡ here → DeliversStream Calls shards stream old new → (key new ≡ here) × DeliversStream (Tells here) shards stream (seat old) (seat new)
+  stream_delivered_there shards stream old new is (ending, (count, last, steps, ends)) =
+      let all = steps_there shards stream.from.slot count old new (new_carrier (carried_stream stream)) last is steps in
+      (all.0, (ending, (count, last, all.1, ends)))
+
+  -- steps of any kind
+  pub repeated_there : (Step : N → N → Type 0) (StepThere : S → S → Type 0) → ((old new : N) → key old ≡ here → Step old new → (key new ≡ here) × StepThere (seat old) (seat new)) → (count : ℕ) (old new : N) → key old ≡ here
+      → Repeats Step count old new → (key new ≡ here) × Repeats StepThere count (seat old) (seat new)
+  repeated_there Step StepThere one zero old new is h = (ap key h ∙ is, ap seat h)
+  repeated_there Step StepThere one (suc count) old new is (between, earlier, last) =
+      let first = repeated_there Step StepThere one count old between is earlier in
+      let next = one between new first.0 last in
+      (next.0, (seat between, first.1, next.1))
 
   delivered_there : (config : Config) (old new : N) → key old ≡ here → DeliversSome Calls config old new → (key new ≡ here) × DeliversSome (Tells here) config (seat old) (seat new)
   delivered_there config old new is (stream, ending, there, (count, last, steps, ends)) =
@@ -213,7 +229,7 @@ module _ {N K S : Type 0} (Calls : N → NodeId → ℕ → ℕ → NodeCall →
           )
 
     module _ (config : Config) where
-      converses_there : (nodes new_nodes : N) (moments new_moments : M) → key nodes ≡ here → Converses Calls Gives config nodes new_nodes moments new_moments
+      pub converses_there : (nodes new_nodes : N) (moments new_moments : M) → key nodes ≡ here → Converses Calls Gives config nodes new_nodes moments new_moments
           → (key new_nodes ≡ here) × Converses (Tells here) Gives config (seat nodes) (seat new_nodes) moments new_moments
       converses_there nodes new_nodes moments new_moments is (inl (ended, h)) =
           let all = conversed_there config None None None None nodes new_nodes moments new_moments ended is h in (all.0, inl (ended, all.1))

@@ -41,6 +41,10 @@ module _ {N : Type 0} (answers : N → NodeId → ℕ → ℕ → NodeCall → N
   Delivers stream old new ending =
       (count : ℕ) × (last : Carrier) × TakesSteps count old (new_carrier stream) new last × (carrier_next shards last.stream last.log ≡ Ended ending)
 
+-- a new carrier of the stream of this work item takes its steps to its end
+abbrev pub DeliversStream : {N : Type 0} → (N → NodeId → ℕ → ℕ → NodeCall → NodeReply → N → Type 0) → ℕ → Noted → N → N → Type 0
+DeliversStream answers shards stream old new = (ending : Delivery) × Delivers answers shards stream.from.slot (carried_stream stream) old new ending
+
 module _ {N : Type 0} (answers : N → NodeId → ℕ → ℕ → NodeCall → NodeReply → N → Type 0) (config : Config) where
   -- a new carrier of a stream of the configuration takes its steps to its end
   abbrev pub DeliversSome : N → N → Type 0

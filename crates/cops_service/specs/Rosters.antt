@@ -65,10 +65,11 @@ IsNotKept cluster roster tenant error old new =
     ⊎ ((error ≡ OutOfMemory) × (between : HostedSeat) × IsAdmittedAtAll cluster (next_slot roster.tenants) roster.next tenant old between
     × IsClosedAtAll cluster (next_slot roster.tenants) between new)
 
-abbrev pub IsNotAdmitted : Gates Hosted → Roster → Tenant → RequestError → HostedSeat → HostedSeat → Type 0
-IsNotAdmitted cluster roster tenant error old new =
-    (IsRefusedHere roster tenant error × (new ≡ old))
-    ⊎ ((roster_refusal roster tenant ≡ None) × IsNotKept cluster roster tenant error old new)
+-- A number that was given to a life that didn't begin isn't given again
+abbrev pub IsNotAdmitted : Gates Hosted → Roster → Tenant → RequestError → HostedSeat → HostedSeat → ℕ → Type 0
+IsNotAdmitted cluster roster tenant error old new next =
+    (IsRefusedHere roster tenant error × (new ≡ old) × (next ≡ roster.next))
+    ⊎ ((roster_refusal roster tenant ≡ None) × IsNotKept cluster roster tenant error old new × (next ≡ roster.next + 1))
 
 -- ---- the replies to the host's lines
 
@@ -77,11 +78,11 @@ abbrev pub IsAdmissionTold : Gates Hosted → Tenant → Roster → HostedSeat �
 IsAdmissionTold cluster tenant old seat (Admitted name) new new_seat =
     (name ≡ tenant.name) × (life : Life) × BeginsLife life tenant old new × IsAdmittedAtAll cluster life.slot life.number tenant seat new_seat
 IsAdmissionTold cluster tenant old seat (Denied fault) new new_seat =
-    (error : RequestError) × (fault ≡ fault_told error) × IsNotAdmitted cluster old tenant error seat new_seat × (new.tenants ≡ old.tenants) × (new.lives ≡ old.lives)
+    (error : RequestError) × (fault ≡ fault_told error) × IsNotAdmitted cluster old tenant error seat new_seat new.next × (new.tenants ≡ old.tenants) × (new.lives ≡ old.lives)
 IsAdmissionTold cluster tenant old seat (Closed name) new new_seat = ⊥
 
 -- The reply to a close, if this slot has the tenant of that name
 abbrev pub IsCloseTold : Gates Hosted → List ℕ → Option ℕ → Roster → HostedSeat → HostReply → Roster → HostedSeat → Type 0
 IsCloseTold cluster name None old seat reply new new_seat = (reply ≡ Denied UnknownTenant) × (new ≡ old) × (new_seat ≡ seat)
 IsCloseTold cluster name (Some slot) old seat reply new new_seat =
-    (reply ≡ Closed name) × (new.tenants ≡ slice_set old.tenants slot None) × IsClosedAtAll cluster slot seat new_seat
+    (reply ≡ Closed name) × (new.tenants ≡ slice_set old.tenants slot None) × (new.lives ≡ old.lives) × (new.next ≡ old.next) × IsClosedAtAll cluster slot seat new_seat

@@ -1,14 +1,14 @@
 //! Carries and collects for tenants that come and go: each work item in its own life.
+ghost use Rattle.std.specs.Prelude.{◌≡◌};
+ghost use Rattle.cops_service.specs.Calling.{DoneForEach};
+ghost use Rattle.cops_service.specs.HostedCrews.{CarriesInLife, CarriesLives, CollectsInLife, CollectsLives};
 
-use crate::carrying::{
-    Came, Tried, after_collection, after_stream, carry_stream, is_between, is_node,
-};
-use crate::dues::{Collected, Collecting};
+use crate::carrying::{after_collection, after_stream, came_of, carry_stream, is_between, is_node};
+use crate::dues::{Collected, Collecting, Dues};
 use crate::living::LivingDesk;
 use crate::notes::{Stream, TenantNode};
 use crate::waiting::Waiting;
-use cops_node::{NodeCall, NodeReply, Nodes};
-use cops_types::Fault;
+use cops_node::{NodeCall, Nodes};
 use cops_wire::Moments;
 use std::sync::Wait;
 use std::thread;
@@ -23,16 +23,41 @@ fn carry_life<R: Wait, T: Moments>(
     moments: &mut T,
     stream: &Stream,
     waiting: &mut Waiting,
-) -> bool {
+) -> bool
+    ensures config { nodes.new.config.now ≡ nodes.old.config.now }
+    ensures desk { (nodes.new.nodes.desk.cluster.now ≡ nodes.old.nodes.desk.cluster.now) × (nodes.new.nodes.desk.seat.ghost_name ≡ nodes.old.nodes.desk.seat.ghost_name) }
+    ensures account { nodes.new.nodes.desk.seat.now.account ≡ nodes.old.nodes.desk.seat.now.account }
+    ensures carries { CarriesInLife nodes.old.config.now nodes.old.nodes.desk.cluster.now stream.now nodes.old.nodes.desk.seat.now nodes.new.nodes.desk.seat.now }
+{
     let config = nodes.config;
     if !is_between(config, stream) {
         return false;
     }
     let rt = nodes.nodes.desk.rt;
+    let notes = nodes.notes;
     nodes.turn_to(stream.from.slot, stream.from.life);
     let tried = carry_stream(rt, nodes, config, stream, moments);
-    after_stream(rt, nodes.notes, stream, &tried, moments.now(), waiting);
+    after_stream(rt, notes, stream, &tried, moments.now(), waiting);
     tried.carried
+}
+
+// Carries what these streams have, one after another. Returns whether anything was carried.
+fn carry_each<R: Wait, T: Moments>(
+    nodes: &mut LivingDesk<'_, R>,
+    moments: &mut T,
+    streams: &[Stream],
+    waiting: &mut Waiting,
+) -> bool
+    ensures config { nodes.new.config.now ≡ nodes.old.config.now }
+    ensures desk { (nodes.new.nodes.desk.cluster.now ≡ nodes.old.nodes.desk.cluster.now) × (nodes.new.nodes.desk.seat.ghost_name ≡ nodes.old.nodes.desk.seat.ghost_name) }
+    ensures account { nodes.new.nodes.desk.seat.now.account ≡ nodes.old.nodes.desk.seat.now.account }
+    ensures carries { DoneForEach (CarriesInLife nodes.old.config.now nodes.old.nodes.desk.cluster.now) streams.now nodes.old.nodes.desk.seat.now nodes.new.nodes.desk.seat.now }
+{
+    let mut carried = false;
+    for stream in streams {
+        carried |= carry_life(nodes, moments, stream, waiting);
+    }
+    carried
 }
 
 /// Carries what is noted, until the list has ended and no stream goes on.
@@ -41,7 +66,12 @@ pub(crate) fn carry_lives<R: Wait + Clock, T: Moments>(
     moments: &mut T,
     streams: &mut Vec<Stream>,
     waiting: &mut Waiting,
-) {
+)
+    ensures config { nodes.new.config.now ≡ nodes.old.config.now }
+    ensures desk { (nodes.new.nodes.desk.cluster.now ≡ nodes.old.nodes.desk.cluster.now) × (nodes.new.nodes.desk.seat.ghost_name ≡ nodes.old.nodes.desk.seat.ghost_name) }
+    ensures account { nodes.new.nodes.desk.seat.now.account ≡ nodes.old.nodes.desk.seat.now.account }
+    ensures carries { CarriesLives nodes.old.config.now nodes.old.nodes.desk.cluster.now nodes.old.nodes.desk.seat.now nodes.new.nodes.desk.seat.now }
+{
     let rt = nodes.nodes.desk.rt;
     let notes = nodes.notes;
     // Streams that wait are tried once more at the end, and again after something was carried.
@@ -56,10 +86,7 @@ pub(crate) fn carry_lives<R: Wait + Clock, T: Moments>(
             is_tried = true;
             waiting.note_all(rt, notes);
         }
-        let mut carried = false;
-        for stream in streams.as_slice() {
-            carried |= carry_life(nodes, moments, stream, waiting);
-        }
+        let carried = carry_each(nodes, moments, streams.as_slice(), waiting);
         is_tried = is_tried && !carried;
         streams.clear();
     }
@@ -70,15 +97,37 @@ fn collect_life<R: Wait>(
     nodes: &mut LivingDesk<'_, R>,
     place: &TenantNode,
     moment: u64,
-) -> Collected {
+) -> Collected
+    ensures config { nodes.new.config.now ≡ nodes.old.config.now }
+    ensures desk { (nodes.new.nodes.desk.cluster.now ≡ nodes.old.nodes.desk.cluster.now) × (nodes.new.nodes.desk.seat.ghost_name ≡ nodes.old.nodes.desk.seat.ghost_name) }
+    ensures account { nodes.new.nodes.desk.seat.now.account ≡ nodes.old.nodes.desk.seat.now.account }
+    ensures collects { CollectsInLife nodes.old.config.now nodes.old.nodes.desk.cluster.now place.now nodes.old.nodes.desk.seat.now nodes.new.nodes.desk.seat.now }
+{
     if !is_node(nodes.config, place) {
         return Collected::Removed(0);
     }
     nodes.turn_to(place.slot, place.life);
-    match nodes.step(place.id, place.slot, moment, NodeCall::Collect) {
-        Ok(NodeReply::Removed(count)) => Collected::Removed(count),
-        Ok(NodeReply::Refused(Fault::UnknownTenant)) => Collected::Removed(0),
-        _ => Collected::Refused,
+    came_of(nodes.step(place.id, place.slot, moment, NodeCall::Collect))
+}
+
+// Collects at these places, one after another. Where versions were removed, streams to that place may go on.
+fn collect_each<R: Wait, T: Moments>(
+    nodes: &mut LivingDesk<'_, R>,
+    moments: &mut T,
+    places: &[TenantNode],
+    dues: &mut Dues,
+)
+    ensures config { nodes.new.config.now ≡ nodes.old.config.now }
+    ensures desk { (nodes.new.nodes.desk.cluster.now ≡ nodes.old.nodes.desk.cluster.now) × (nodes.new.nodes.desk.seat.ghost_name ≡ nodes.old.nodes.desk.seat.ghost_name) }
+    ensures account { nodes.new.nodes.desk.seat.now.account ≡ nodes.old.nodes.desk.seat.now.account }
+    ensures collects { DoneForEach (CollectsInLife nodes.old.config.now nodes.old.nodes.desk.cluster.now) places.now nodes.old.nodes.desk.seat.now nodes.new.nodes.desk.seat.now }
+{
+    let rt = nodes.nodes.desk.rt;
+    let notes = nodes.notes;
+    for place in places {
+        let moment = moments.now();
+        let came = collect_life(nodes, place, moment);
+        after_collection(rt, notes, place, moment, came, dues);
     }
 }
 
@@ -87,7 +136,12 @@ pub(crate) fn collect_lives<R: Wait + Clock, T: Moments>(
     nodes: &mut LivingDesk<'_, R>,
     moments: &mut T,
     work: &mut Collecting,
-) {
+)
+    ensures config { nodes.new.config.now ≡ nodes.old.config.now }
+    ensures desk { (nodes.new.nodes.desk.cluster.now ≡ nodes.old.nodes.desk.cluster.now) × (nodes.new.nodes.desk.seat.ghost_name ≡ nodes.old.nodes.desk.seat.ghost_name) }
+    ensures account { nodes.new.nodes.desk.seat.now.account ≡ nodes.old.nodes.desk.seat.now.account }
+    ensures collects { CollectsLives nodes.old.config.now nodes.old.nodes.desk.cluster.now nodes.old.nodes.desk.seat.now nodes.new.nodes.desk.seat.now }
+{
     let rt = nodes.nodes.desk.rt;
     let notes = nodes.notes;
     for _ in rt.forever() {
@@ -95,11 +149,7 @@ pub(crate) fn collect_lives<R: Wait + Clock, T: Moments>(
             .grown
             .take(rt, &mut work.visits, work.dues.rest(moments.now()));
         work.sort(moments.now());
-        for place in work.places.as_slice() {
-            let moment = moments.now();
-            let came = collect_life(nodes, place, moment);
-            after_collection(rt, notes, place, moment, came, &mut work.dues);
-        }
+        collect_each(nodes, moments, work.places.as_slice(), &mut work.dues);
         work.dues.settle();
         if !goes_on {
             return;

@@ -2,6 +2,7 @@
 ghost use Rattle.std.specs.Prelude.{◌≡◌, ◌≤◌};
 ghost use Rattle.cops_types.specs.OpenSlots.{open_slot_of_name};
 ghost use Rattle.cops_types.specs.Version.{last_clock};
+ghost use Rattle.cops_service.specs.HostedCrews.{FollowsLine, IsLineTold, IsTenantLineTold};
 ghost use Rattle.cops_service.specs.Rosters.{IsAdmissionTold, IsCloseTold};
 
 use crate::host_lines::HostLine;
@@ -59,6 +60,50 @@ fn close<R: Wait>(
     }
 }
 
+// Admits the tenant of a line. A first clock that no clock has is bad syntax.
+fn admit_line<R: Wait>(
+    rt: &R,
+    residents: &Residents,
+    host: &mut TenantHost<'_, R>,
+    tenant: Tenant,
+) -> HostReply
+    ensures cluster { host.new.desk.cluster.now ≡ host.old.desk.cluster.now }
+    ensures seat { host.new.desk.seat.ghost_name ≡ host.old.desk.seat.ghost_name }
+    ensures told { IsTenantLineTold host.old.desk.cluster.now tenant
+        (record { roster = host.old.roster; seat = host.old.desk.seat.now }) result
+        (record { roster = host.new.roster; seat = host.new.desk.seat.now }) }
+{
+    if tenant.first_clock > Version::LAST_CLOCK {
+        return HostReply::Denied(Fault::Syntax);
+    }
+    admit(rt, residents, host, tenant)
+}
+
+// Does what a line of the host says. Returns the reply, or none if the line asks for the end.
+fn reply_to<R: Wait + Clock>(
+    rt: &R,
+    residents: &Residents,
+    stop: &Stop,
+    host: &mut TenantHost<'_, R>,
+    line: HostLine,
+) -> Option<HostReply>
+    ensures cluster { host.new.desk.cluster.now ≡ host.old.desk.cluster.now }
+    ensures seat { host.new.desk.seat.ghost_name ≡ host.old.desk.seat.ghost_name }
+    ensures told { IsLineTold host.old.desk.cluster.now line
+        (record { roster = host.old.roster; seat = host.old.desk.seat.now }) result
+        (record { roster = host.new.roster; seat = host.new.desk.seat.now }) }
+{
+    match line {
+        HostLine::Admit(tenant) => Some(admit_line(rt, residents, host, tenant)),
+        HostLine::Close(name) => Some(close(rt, residents, host, name)),
+        HostLine::Unknown => Some(HostReply::Denied(Fault::Syntax)),
+        HostLine::End => {
+            stop.ask(rt);
+            None
+        }
+    }
+}
+
 /// Follows a line of the host, and reports the reply.
 pub(crate) fn follow<R: Wait + Clock, L: HostReports>(
     rt: &R,
@@ -67,17 +112,15 @@ pub(crate) fn follow<R: Wait + Clock, L: HostReports>(
     reports: &L,
     host: &mut TenantHost<'_, R>,
     line: HostLine,
-) {
-    let reply = match line {
-        HostLine::Admit(tenant) if tenant.first_clock <= Version::LAST_CLOCK => {
-            admit(rt, residents, host, tenant)
-        }
-        HostLine::Admit(_) | HostLine::Unknown => HostReply::Denied(Fault::Syntax),
-        HostLine::Close(name) => close(rt, residents, host, name),
-        HostLine::End => {
-            stop.ask(rt);
-            return;
-        }
-    };
-    reports.told(&reply);
+)
+    ensures cluster { host.new.desk.cluster.now ≡ host.old.desk.cluster.now }
+    ensures seat { host.new.desk.seat.ghost_name ≡ host.old.desk.seat.ghost_name }
+    ensures follows { FollowsLine host.old.desk.cluster.now line
+        (record { roster = host.old.roster; seat = host.old.desk.seat.now })
+        (record { roster = host.new.roster; seat = host.new.desk.seat.now }) }
+{
+    let reply = reply_to(rt, residents, stop, host, line);
+    if let Some(reply) = &reply {
+        reports.told(reply);
+    }
 }

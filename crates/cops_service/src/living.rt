@@ -28,6 +28,8 @@ impl<R: Wait> LivingDesk<'_, R> {
     /// Works in this life from now on.
     pub(crate) fn turn_to(&mut self, slot: u64, life: u64)
         ensures config { self.new.config ≡ self.old.config }
+        ensures cluster { self.new.nodes.desk.cluster.now ≡ self.old.nodes.desk.cluster.now }
+        ensures same_seat { (self.new.nodes.desk.seat.ghost_name ≡ self.old.nodes.desk.seat.ghost_name) × (self.new.nodes.desk.seat.now ≡ self.old.nodes.desk.seat.now) }
         ensures slot { self.new.nodes.slot ≡ slot }
         ensures life { self.new.nodes.life ≡ life }
     {
@@ -48,7 +50,7 @@ impl<R: Wait> LivingDesk<'_, R> {
 impl<R: Wait> Nodes for LivingDesk<'_, R> {
     ghost shape = { λ nodes. hosted_shape nodes.nodes.desk.cluster.now };
 
-    ghost Answers = { λ old id slot moment call reply new. (new.nodes.desk.cluster.now ≡ old.nodes.desk.cluster.now) × (new.nodes.desk.seat.ghost_name ≡ old.nodes.desk.seat.ghost_name) × (new.nodes.slot ≡ old.nodes.slot) × (new.nodes.life ≡ old.nodes.life) × IsLifeCall old.nodes.desk.cluster.now old.nodes.desk.seat.now id old.nodes.slot old.nodes.life moment call reply new.nodes.desk.seat.now };
+    ghost Answers = { λ old id slot moment call reply new. (new.nodes.desk.cluster.now ≡ old.nodes.desk.cluster.now) × (new.nodes.desk.seat.ghost_name ≡ old.nodes.desk.seat.ghost_name) × (new.nodes.slot ≡ old.nodes.slot) × (new.nodes.life ≡ old.nodes.life) × (new.config.now ≡ old.config.now) × IsLifeCall old.nodes.desk.cluster.now old.nodes.desk.seat.now id old.nodes.slot old.nodes.life moment call reply new.nodes.desk.seat.now };
 
     #[inline(always)]
     fn step(

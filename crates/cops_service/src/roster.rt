@@ -104,6 +104,7 @@ impl Roster {
         ensures tenants { self.new.tenants ≡ self.old.tenants }
         ensures lives { self.new.lives ≡ self.old.lives }
         ensures spent { IfErr result (λ fault. (fault ≡ NoSlot) × (self.old.next ≡ last_life)) }
+        ensures err { OnErr result (self.new ≡ self.old) }
     {
         let number = self.next;
         if number == u64::MAX {

@@ -30,7 +30,8 @@ impl<R: Wait> TenantHost<'_, R> {
         ensures at_all { IfOk result (λ life. IsAdmittedAtAll self.old.desk.cluster.now life.slot
             life.number tenant self.old.desk.seat.now self.new.desk.seat.now) }
         ensures refused { IfErr result (λ error. IsNotAdmitted self.old.desk.cluster.now
-            self.old.roster tenant error self.old.desk.seat.now self.new.desk.seat.now) }
+            self.old.roster tenant error self.old.desk.seat.now self.new.desk.seat.now
+            self.new.roster.next) }
         ensures tenants { OnErr result (self.new.roster.tenants ≡ self.old.roster.tenants) }
         ensures lives { OnErr result (self.new.roster.lives ≡ self.old.roster.lives) }
     {

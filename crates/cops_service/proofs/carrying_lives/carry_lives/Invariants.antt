@@ -1,0 +1,12 @@
+use Rattle.std.proofs.Common.{◌≡◌}
+use Rattle.cops_service.specs.HostedCrews.{CarriesLives}
+use Rattle.cops_service.proofs.carrying_lives.carry_lives.Given as goal
+
+abbrev pub invariant-loop : goal.invariant-loop
+invariant-loop g l =
+    (goal.iterator-loop g).can_next l.iterator' × (goal.iterator-loop g).is_finite l.iterator'
+    × (l.nodes.config.now ≡ l.initial.nodes.config.now)
+    × (l.nodes.nodes.desk.cluster.now ≡ l.initial.nodes.nodes.desk.cluster.now)
+    × (l.nodes.nodes.desk.seat.ghost_name ≡ l.initial.nodes.nodes.desk.seat.ghost_name)
+    × (l.nodes.nodes.desk.seat.now.account ≡ l.initial.nodes.nodes.desk.seat.now.account)
+    × CarriesLives l.initial.nodes.config.now l.initial.nodes.nodes.desk.cluster.now l.initial.nodes.nodes.desk.seat.now l.nodes.nodes.desk.seat.now
