@@ -25,8 +25,8 @@ use Rattle.cops_service.specs.declared.notes.TenantNode.{TenantNode}
 use Rattle.cops_service.specs.declared.roster.Life.{Life}
 
 -- the life of a work item
-abbrev pub life_at : TenantNode → Life
-life_at place = record { slot = place.slot; number = place.life }
+abbrev pub life_of_place : TenantNode → Life
+life_of_place place = record { slot = place.slot; number = place.life }
 
 -- a call in this life. The slot that a session or a carrier names is ignored
 abbrev pub CallsInLife : Gates Hosted → Life → HostedSeat → NodeId → ℕ → ℕ → NodeCall → NodeReply → HostedSeat → Type 0
@@ -37,7 +37,7 @@ module _ (config : Config) (cluster : Gates Hosted) where
 
   -- a stream is carried in its life, from its first call to its end
   abbrev pub DeliversInLife : Stream → HostedSeat → HostedSeat → Type 0
-  DeliversInLife stream = DeliversStream (CallsInLife cluster (life_at stream.from)) config.shards stream
+  DeliversInLife stream = DeliversStream (CallsInLife cluster (life_of_place stream.from)) config.shards stream
 
   -- no carrier of this stream, or some, if it goes from a node that is there to another data centre, and otherwise no call is made
   abbrev pub CarriesInLife : Stream → HostedSeat → HostedSeat → Type 0
@@ -56,7 +56,7 @@ module _ (config : Config) (cluster : Gates Hosted) where
 
   -- the tenant's part of a node is collected in its life
   abbrev pub CollectsPlace : TenantNode → HostedSeat → HostedSeat → Type 0
-  CollectsPlace place = Collects (CallsInLife cluster (life_at place)) place
+  CollectsPlace place = Collects (CallsInLife cluster (life_of_place place)) place
 
   -- so it is, if the node is there, and otherwise no call is made
   abbrev pub CollectsInLife : TenantNode → HostedSeat → HostedSeat → Type 0
