@@ -24,3 +24,7 @@ pub mod ServedBy
 pub mod HostedMemory
 pub mod LifeTurns
 pub mod LivesRuns
+pub mod LifeDeeds
+pub mod Admissions
+pub mod LifeTimes
+pub mod ServedLives

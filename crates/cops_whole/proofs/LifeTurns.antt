@@ -23,13 +23,24 @@ use Rattle.cops_history.specs.Lives.{call_in_life, life_log, reply_in_life, slot
 use Rattle.cops_history.specs.Turns.{Turn as CallTurn}
 use Rattle.cops_history.proofs.Lives.{joined_parts}
 use Rattle.cops_served.specs.Conversations.{MakesTurns, turns_of_told}
-use Rattle.cops_whole.specs.LivesRuns.{Deed, DoesAll, DoesOne, IsOfHost, IsSlotTurnAt, IsTurnInLife, SlotCallThere, commands_in_life, joins_life, logged_call, slot_turn_of}
+use Rattle.cops_whole.specs.LivesRuns.{Deed, DoesAll, DoesOne, IsSlotTurnAt, IsTurnInLife, SlotCallThere, calls_of_host, commands_in_life, host_call, is_of_host, joins_life, logged_call, slot_turn_of}
 use Rattle.cops_whole.specs.LivesRuns.Deed.{Acts, Hosts}
 use Rattle.cops_whole.proofs.SeatTurns.{CallAt, MakesCalls, makes_both, turn_by, turns_by}
 use Rattle.cops_whole.proofs.Seated.{id_again}
 
 abbrev pub SlotCalls : Type 0
 SlotCalls = List (CallAt SlotCall SlotReply)
+
+-- ---- lists
+
+pub both_mapped : {A B : Type 0} (f : A → Option B) (one other : List A) → filter_map f (one ++ other) ≡ filter_map f one ++ filter_map f other
+both_mapped f [] other = refl
+both_mapped f (x ∷ one) other = joined_parts (f x) (filter_map f one) (filter_map f other) (filter_map f (one ++ other)) (both_mapped f one other)
+
+-- ---- the host's calls
+
+abbrev pub host_turn : Turn SlotCall SlotReply → Option SlotCallThere
+host_turn t = host_call t.node (logged_call t.entry)
 
 -- ---- the turns of one life
 
@@ -40,10 +51,6 @@ module _ (shards slot life : ℕ) where
   -- the turns of a history that are calls of the life
   abbrev pub life_turns : HostedLog → List CallTurn
   life_turns log = filter_map in_life log
-
-  life_turns_both : (one other : HostedLog) → life_turns (one ++ other) ≡ life_turns one ++ life_turns other
-  life_turns_both [] other = refl
-  life_turns_both (t ∷ one) other = joined_parts (in_life t) (life_turns one) (life_turns other) (life_turns (one ++ other)) (life_turns_both one other)
 
   abbrev life_rest : HostedLog → List Logged
   life_rest log = life_log shards slot life (map slot_turn_of log)
@@ -73,11 +80,12 @@ module _ (shards : ℕ) (states : List Hosted) where
   abbrev call_of : SlotCallThere → CallAt SlotCall SlotReply
   call_of c = record { node = c.node; entry = entry c.entry.slot c.entry.moment c.entry.call c.entry.reply }
 
-  -- the calls by which the seat came from one state to another, of which these are of the life
-  record Called (own : ℕ → ℕ → List CallTurn) (old new : HostedSeat) : Type 0 where
+  -- the calls by which the seat came from one state to another, of which these are of a life, and these the host's
+  record Called (own : ℕ → ℕ → List CallTurn) (hosts : List SlotCallThere) (old new : HostedSeat) : Type 0 where
     pub calls : SlotCalls
     pub made : Makes old calls new
     pub are : (slot life seat : ℕ) → life_turns shards slot life (turns_by seat calls) ≡ own slot life
+    pub asked : (seat : ℕ) → filter_map host_turn (turns_by seat calls) ≡ hosts
 
   -- ---- an actor's
 
@@ -109,11 +117,12 @@ module _ (shards : ℕ) (states : List Hosted) where
     one_more true t ts = refl
     one_more false t ts = refl
 
-    actor_called : (ts : List CallTurn) (old new : HostedSeat) → MakesTurns (IsTurnInLife shards states life) slot old ts new → Called (of_actor ts) old new
+    actor_called : (ts : List CallTurn) (old new : HostedSeat) → MakesTurns (IsTurnInLife shards states life) slot old ts new → Called (of_actor ts) [] old new
     actor_called [] old new same = record {
       calls = [];
       made = same;
       are = λ at its seat. nothing (nat_eq slot at && nat_eq life its);
+      asked = λ seat. refl;
     }
       where
         nothing : (b : Bool) → ◌≡◌ {A = List CallTurn} [] (cond b [] [])
@@ -125,28 +134,30 @@ module _ (shards : ℕ) (states : List Hosted) where
           calls = call_of (made_turn t answer) ∷ rest.calls;
           made = (mid, call, rest.made);
           are = λ at its seat. (λ i. cons_option (one_own t answer at its seat below reply_is i) (rest.are at its seat i)) ∙ one_more (nat_eq slot at && nat_eq life its) t ts;
+          asked = rest.asked;
         }
 
   -- ---- the host's
 
-  host_none : (life : ℕ) (call : SlotCall) → IsOfHost call → call_in_life life call ≡ None
-  host_none life (Own other call) is = absurd is
+  host_none : (life : ℕ) (call : SlotCall) → is_of_host call ≡ true → call_in_life life call ≡ None
+  host_none life (Own other call) is = cc
   host_none life (Admit other tenant) is = refl
   host_none life Close is = refl
 
-  abbrev host_turn : SlotCallThere → NodeCall → CallTurn
-  host_turn c own = record { node = id_of shards c.node; moment = c.entry.moment; call = own; reply = reply_in_life c.entry.reply }
+  abbrev as_turn_of : SlotCallThere → NodeCall → CallTurn
+  as_turn_of c own = record { node = id_of shards c.node; moment = c.entry.moment; call = own; reply = reply_in_life c.entry.reply }
 
-  host_called : (c : SlotCallThere) (old new : HostedSeat) → IsOfHost c.entry.call → IsSlotTurnAt states old c new → Called (λ slot life. []) old new
+  host_called : (c : SlotCallThere) (old new : HostedSeat) → is_of_host c.entry.call ≡ true → IsSlotTurnAt states old c new → Called (λ slot life. []) (c ∷ []) old new
   host_called c old new is call = record {
     calls = call_of c ∷ [];
     made = (new, call, refl);
     are = λ slot life seat. (λ i. cons_option (none slot life i) []);
+    asked = λ seat. ap (λ b. cons_option (cond b (Some c) None) []) is;
   }
     where
-      none : (slot life : ℕ) → cond (nat_eq c.entry.slot slot) (option_map (host_turn c) (call_in_life life c.entry.call)) None ≡ None
-      none slot life = elim (nat_eq c.entry.slot slot) as (λ b. cond b (option_map (host_turn c) (call_in_life life c.entry.call)) None ≡ None) [
-        | true ↦ ap (option_map (host_turn c)) (host_none life c.entry.call is)
+      none : (slot life : ℕ) → cond (nat_eq c.entry.slot slot) (option_map (as_turn_of c) (call_in_life life c.entry.call)) None ≡ None
+      none slot life = elim (nat_eq c.entry.slot slot) as (λ b. cond b (option_map (as_turn_of c) (call_in_life life c.entry.call)) None ≡ None) [
+        | true ↦ ap (option_map (as_turn_of c)) (host_none life c.entry.call is)
         | false ↦ refl
       ]
 
@@ -155,10 +166,10 @@ module _ (shards : ℕ) (states : List Hosted) where
   abbrev of_deed : Deed → ℕ → ℕ → List CallTurn
   of_deed deed slot life = flat_map turns_of_told (joins_life slot life deed [])
 
-  deed_called : (deed : Deed) (old new : HostedSeat) → DoesOne shards states old deed new → Called (of_deed deed) old new
+  deed_called : (deed : Deed) (old new : HostedSeat) → DoesOne shards states old deed new → Called (of_deed deed) (calls_of_host (deed ∷ [])) old new
   deed_called (Acts actor) old new made =
       let it = actor_called actor.slot actor.life (turns_of_told actor.did) old new made in
-      record { calls = it.calls; made = it.made; are = λ slot life seat. it.are slot life seat ∙ told_is (nat_eq actor.slot slot && nat_eq actor.life life) }
+      record { calls = it.calls; made = it.made; are = λ slot life seat. it.are slot life seat ∙ told_is (nat_eq actor.slot slot && nat_eq actor.life life); asked = it.asked }
     where
       told_is : (b : Bool) → cond b (turns_of_told actor.did) [] ≡ flat_map turns_of_told (cond b (actor.did ∷ []) [])
       told_is true = sym (append-nil (turns_of_told actor.did))
@@ -173,14 +184,19 @@ module _ (shards : ℕ) (states : List Hosted) where
       by false = refl
   joins_first slot life (Hosts c) rest = refl
 
-  -- the calls of all deeds, of which those of a life are its actors'
+  hosts_first : (deed : Deed) (deeds : List Deed) → calls_of_host (deed ∷ []) ++ calls_of_host deeds ≡ calls_of_host (deed ∷ deeds)
+  hosts_first (Acts actor) deeds = refl
+  hosts_first (Hosts c) deeds = refl
+
+  -- the calls of all deeds, of which those of a life are its actors', and those of the host are its own
   pub record AllCalled (deeds : List Deed) (old new : HostedSeat) : Type 0 where
     pub calls : SlotCalls
     pub made : Makes old calls new
     pub are : (slot life seat : ℕ) → life_turns shards slot life (turns_by seat calls) ≡ flat_map turns_of_told (commands_in_life slot life deeds)
+    pub asked : (seat : ℕ) → filter_map host_turn (turns_by seat calls) ≡ calls_of_host deeds
 
   pub all_called : (deeds : List Deed) (old new : HostedSeat) → DoesAll shards states old deeds new → AllCalled deeds old new
-  all_called [] old new same = record { calls = []; made = same; are = λ slot life seat. refl }
+  all_called [] old new same = record { calls = []; made = same; are = λ slot life seat. refl; asked = λ seat. refl }
   all_called (deed ∷ deeds) old new (mid, first, later) =
       let one = deed_called deed old mid first in
       let rest = all_called deeds mid new later in
@@ -188,6 +204,9 @@ module _ (shards : ℕ) (states : List Hosted) where
         calls = one.calls ++ rest.calls;
         made = makes_both IsSlotTurn MayLackAtSlot (told.Refused OutOfMemory) states one.calls rest.calls old mid new one.made rest.made;
         are = λ slot life seat.
-            ap (life_turns shards slot life) (map-append (turn_by seat) one.calls rest.calls) ∙ life_turns_both shards slot life (turns_by seat one.calls) (turns_by seat rest.calls)
+            ap (life_turns shards slot life) (map-append (turn_by seat) one.calls rest.calls) ∙ both_mapped (in_life shards slot life) (turns_by seat one.calls) (turns_by seat rest.calls)
             ∙ (λ i. one.are slot life seat i ++ rest.are slot life seat i) ∙ sym (joins_first slot life deed (commands_in_life slot life deeds));
+        asked = λ seat.
+            ap (filter_map host_turn) (map-append (turn_by seat) one.calls rest.calls) ∙ both_mapped host_turn (turns_by seat one.calls) (turns_by seat rest.calls)
+            ∙ (λ i. one.asked seat i ++ rest.asked seat i) ∙ hosts_first deed deeds;
       }

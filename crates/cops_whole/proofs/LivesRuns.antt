@@ -1,7 +1,7 @@
 -- The history of a service whose tenants came and went is a log of lives, each of which was served causally.
 use Rattle.std.proofs.Common.{◌≡◌, ◌⊎◌, ℕ, zero, suc, ◌*◌, ◌<◌, ◌≤◌, Bool, true, false, cond, ◌==◌, List, [], ◌∷◌, map, length, inl, inr, refl, sym, ◌∙◌, ap, subst, arith}
 use Rattle.std.specs.Prelude.{Option, Some, None, filter, replicate}
-use Rattle.std.specs.List.{AllByRecursion, flat_map}
+use Rattle.std.specs.List.{AllByRecursion, cons_option, filter_map, flat_map}
 use Rattle.std.proofs.lemmas.Bool.Decides.{leb_tells}
 use Rattle.std.proofs.lemmas.List.{length-map}
 use mathlib.Core.Option.{some, some-injective}
@@ -11,7 +11,7 @@ use Rattle.cops_types.specs.declared.configs.Tenant.{Tenant}
 use Rattle.cops_types.specs.declared.faults.Fault.TheVariants.{OutOfMemory}
 use Rattle.cops_types.specs.TenantConfig.{tenant_config}
 use Rattle.cops_gate.specs.declared.history.Entry.{Entry}
-use Rattle.cops_gate.specs.History.{IsLegal, Leads, turns_at}
+use Rattle.cops_gate.specs.History.{IsLegal, Leads, turns_at, turns_of}
 use Rattle.cops_gate.proofs.Keeps.{at_below, there_at}
 use Rattle.cops_node.specs.Clusters.{new_nodes, new_shared}
 use Rattle.cops_node.specs.declared.hosted.SlotCall.{SlotCall}
@@ -26,11 +26,12 @@ use Rattle.cops_history.specs.History.{Behaves}
 use Rattle.cops_history.specs.Lives.{IsTimeOf, LeadsOnSlots, LivesCausally, SlotTurn, new_hosted, slot_entries_at}
 use Rattle.cops_history.proofs.LifeLogs.{lived}
 use Rattle.cops_served.specs.Conversations.{turns_of_told}
-use Rattle.cops_whole.specs.LivesRuns.{Deed, IsLivesRun, IsLogOfLives, SeatDidDeeds, commands_in_life, kept_slot_log, says_out_of_memory, logged_call, slot_turn_of, unless_out_of_memory}
+use Rattle.cops_whole.specs.LivesRuns.{Deed, IsLivesRun, IsLogOfLives, SeatDidDeeds, calls_of_host, commands_in_life, host_call, kept_slot_log, says_out_of_memory, logged_call, slot_turn_of, unless_out_of_memory}
 use Rattle.cops_whole.proofs.GateLogs.{AreCallsOf, GateLog, LeadsLacking, SeatCalled, entries_there, gate_log}
 use Rattle.cops_whole.proofs.Histories.{how_many, opened_at}
 use Rattle.cops_whole.proofs.HostedMemory.{hosted_memory}
-use Rattle.cops_whole.proofs.LifeTurns.{AllCalled, SlotCalls, all_called, life_by_seat, life_turns}
+use Rattle.cops_whole.proofs.FilledLogs.{filter-mapped}
+use Rattle.cops_whole.proofs.LifeTurns.{AllCalled, SlotCalls, all_called, host_turn, life_by_seat, life_turns}
 use Rattle.cops_whole.proofs.PlacedTurns.{ArePlaced}
 use Rattle.cops_whole.proofs.SeatTurns.{kept, kept_entry, turns_by}
 
@@ -45,6 +46,10 @@ all_at : {A : Type 0} (P : A → Type 0) (xs : List A) (i : ℕ) (x : A) → All
 all_at P [] i x all at = cc
 all_at P (y ∷ xs) zero x all at = subst P (some-injective y x at) all.0
 all_at P (y ∷ xs) (suc i) x all at = all_at P xs i x all.1 at
+
+mapped_twice : {A B D : Type 0} (f : A → B) (g : B → Option D) (xs : List A) → filter_map g (map f xs) ≡ filter_map (λ x. g (f x)) xs
+mapped_twice f g [] = refl
+mapped_twice f g (x ∷ xs) = ap (cons_option (g (f x))) (mapped_twice f g xs)
 
 -- ---- a history as a log of lives
 
@@ -149,6 +154,13 @@ module _ (config : Config) (states : List Hosted) (history : HostedLog) (seats :
       by (inl past) = ap (λ ds. flat_map turns_of_told (commands_in_life slot life ds)) (sym (run.few seat past))
       by (inr within) = (called_by seat (run.did seat within)).are slot life seat
 
+  asked_by : (seat : ℕ) → filter_map host_turn (turns_by seat (calls seat)) ≡ calls_of_host (deeds seat)
+  asked_by seat = by (tells seat)
+    where
+      by : (o : (seats ≤ seat) ⊎ (seat < seats)) → filter_map host_turn (turns_by seat (calls_if seat o)) ≡ calls_of_host (deeds seat)
+      by (inl past) = ap calls_of_host (sym (run.few seat past))
+      by (inr within) = (called_by seat (run.did seat within)).asked seat
+
   -- ---- the log
 
   legal_there : (number : ℕ) (first : Hosted) → get_elem? states number ≡ some first → IsLegal IsSlotTurn first (turns_at number history)
@@ -175,6 +187,9 @@ module _ (config : Config) (states : List Hosted) (history : HostedLog) (seats :
       legal = λ number within. let led = run.legal number within in (led.0, leads number led.0 within led.1);
     };
     make = λ slot life seat. sym (life_by_seat config.shards slot life seat gate.log ∙ ap (life_turns config.shards slot life) (gate.of_seats seat) ∙ in_lives slot life seat);
+    asked = λ seat.
+        ap (filter_map (λ (t : SlotTurn). host_call t.node t.entry)) (filter-mapped slot_turn_of (λ (t : SlotTurn). t.seat == seat) gate.log)
+        ∙ mapped_twice slot_turn_of (λ (t : SlotTurn). host_call t.node t.entry) (turns_of seat gate.log) ∙ ap (filter_map host_turn) (gate.of_seats seat) ∙ asked_by seat;
     leads = leads;
   }
 

@@ -8,3 +8,7 @@ pub mod SmallService
 pub mod Clients
 pub mod ServedBy
 pub mod LivesRuns
+pub mod SeatsDone
+pub mod LifeCrews
+pub mod LifeClients
+pub mod ServedLives

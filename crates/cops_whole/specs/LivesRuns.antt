@@ -1,6 +1,6 @@
 -- A service whose tenants came and went: one history of all turns at its nodes, and what each seat did.
-use Rattle.std.specs.Prelude.{◌≡◌, ◌⊎◌, ℕ, ◌*◌, ◌<◌, ◌≤◌, ◌&&◌, Bool, true, false, nat_eq, map, List, [], ◌∷◌, Option, Some, None, if◌then◌else◌}
-use Rattle.std.specs.List.{AllByRecursion, flat_map}
+use Rattle.std.specs.Prelude.{◌≡◌, ◌⊎◌, ℕ, ◌*◌, ◌<◌, ◌≤◌, ◌&&◌, ◌==◌, Bool, true, false, nat_eq, filter, map, List, [], ◌∷◌, Option, Some, None, if◌then◌else◌}
+use Rattle.std.specs.List.{AllByRecursion, filter_map, flat_map}
 use Rattle.cops_types.specs.declared.configs.Config.{Config}
 use Rattle.cops_types.specs.declared.faults.Fault.TheVariants.{OutOfMemory}
 use Rattle.cops_gate.specs.declared.history.Turn.{Turn}
@@ -44,10 +44,10 @@ IsTurnInLife shards states life old id slot moment call reply new =
     × IsSlotTurnAt states old (record { node = node_number shards id; entry = slot_entry slot moment (Own life call) answer }) new
 
 -- the host admits a tenant or closes a slot
-abbrev pub IsOfHost : SlotCall → Type 0
-IsOfHost (Own life call) = ⊥
-IsOfHost (Admit life tenant) = Unit {0}
-IsOfHost Close = Unit {0}
+abbrev pub is_of_host : SlotCall → Bool
+is_of_host (Own life call) = false
+is_of_host (Admit life tenant) = true
+is_of_host Close = true
 
 -- ---- what a seat did
 
@@ -64,7 +64,7 @@ pub data Deed : Type 0 where
 
 abbrev pub DoesOne : ℕ → List Hosted → HostedSeat → Deed → HostedSeat → Type 0
 DoesOne shards states old (Acts actor) new = MakesTurns (IsTurnInLife shards states actor.life) actor.slot old (turns_of_told actor.did) new
-DoesOne shards states old (Hosts c) new = IsOfHost c.entry.call × IsSlotTurnAt states old c new
+DoesOne shards states old (Hosts c) new = (is_of_host c.entry.call ≡ true) × IsSlotTurnAt states old c new
 
 -- one after another
 abbrev pub DoesAll : ℕ → List Hosted → HostedSeat → List Deed → HostedSeat → Type 0
@@ -79,6 +79,12 @@ joins_life slot life (Hosts c) rest = rest
 abbrev pub commands_in_life : ℕ → ℕ → List Deed → List (List Told)
 commands_in_life slot life [] = []
 commands_in_life slot life (deed ∷ deeds) = joins_life slot life deed (commands_in_life slot life deeds)
+
+-- the host's calls
+abbrev pub calls_of_host : List Deed → List SlotCallThere
+calls_of_host [] = []
+calls_of_host (Acts actor ∷ deeds) = calls_of_host deeds
+calls_of_host (Hosts c ∷ deeds) = c ∷ calls_of_host deeds
 
 -- The seat of this number had made no turn. Then it did this at the nodes, and each of its calls got a ticket. The history has all that the seat has
 -- seen as a prefix, and no other turn of it.
@@ -123,11 +129,21 @@ unless_out_of_memory (Some e) = if says_out_of_memory e.reply then None else Som
 abbrev pub kept_slot_log : List SlotTurn → List SlotTurn
 kept_slot_log log = map (λ (t : SlotTurn). record { seat = t.seat; node = t.node; entry = unless_out_of_memory t.entry }) log
 
--- A log of all calls, which the gate keeps as this history. For each life, the turns of each seat are those of the commands of its actors there. A
--- node that the history leaves is one that the log leaves.
+-- a call of the host, at the node of this number
+abbrev pub host_call : ℕ → Option SlotEntry → Option SlotCallThere
+host_call node None = None
+host_call node (Some e) = if is_of_host e.call then Some (record { node = node; entry = e }) else None
+
+-- the host's calls by a seat, in order
+abbrev pub host_calls_by : ℕ → List SlotTurn → List SlotCallThere
+host_calls_by seat log = filter_map (λ (t : SlotTurn). host_call t.node t.entry) (filter (λ (t : SlotTurn). t.seat == seat) log)
+
+-- A log of all calls, which the gate keeps as this history. For each life, the turns of each seat are those of the commands of its actors there. The
+-- host's calls by a seat are those that it made. A node that the history leaves is one that the log leaves.
 pub record IsLogOfLives (config : Config) (history : HostedLog) (deeds : ℕ → List Deed) (log : List SlotTurn) : Type 0 where
   pub kept : kept_slot_log log ≡ map slot_turn_of history
   pub hosted : IsHostedLog config log
   pub make : (slot life seat : ℕ) → flat_map turns_of_told (commands_in_life slot life (deeds seat)) ≡ turns_by seat (life_log config.shards slot life log)
+  pub asked : (seat : ℕ) → host_calls_by seat log ≡ calls_of_host (deeds seat)
   pub leads : (number : ℕ) (left : Hosted) → number < config.data_centres * config.shards → Leads IsSlotTurn (new_hosted config number) (turns_at number history) left →
       LeadsOnSlots (new_hosted config number) (slot_entries_at number log) left

@@ -24,12 +24,15 @@ ghost use Rattle.cops_service.specs.Crews.{AreServedBy};
 ghost use Rattle.cops_service.specs.Desks.{IsDeskCall, NodeSeat};
 ghost use Rattle.cops_service.specs.Gates.{Gates};
 ghost use Rattle.cops_service.specs.Hosted.{HostedLog};
+ghost use Rattle.cops_whole.specs.LifeCrews.{AreServedInLives};
+ghost use Rattle.cops_service.specs.Rosters.{Roster};
 ghost use Rattle.cops_service.specs.Slots.{NodeLog};
 ghost use Rattle.cops_whole.specs.Threads.{AreCallsOfActors};
 ghost use Rattle.cops_whole.specs.LivesRuns.{Deed, IsLivesRun, IsLogOfLives, commands_in_life};
 ghost use Rattle.cops_whole.specs.NoOps.{IsLogOfGates};
 ghost use Rattle.cops_whole.specs.Seats.{AddsTurns, AllRecorded, IsServedCluster, MakesAll, SlotActor, own_commands, turns_by_actor};
 ghost use Rattle.cops_whole.specs.ServedBy.{AreServedByActors};
+ghost use Rattle.cops_whole.specs.ServedLives.{AreServedByDeeds};
 ghost use Rattle.cops_whole.specs.Services.{IsCallAtShard, IsCrewRun, IsLogOfService, IsServiceRun, IsTenantOfService, SeatActors, did_by, past_numbers};
 ghost use Rattle.cops_whole.specs.SmallCluster.{small_actors, small_config, small_log};
 ghost use Rattle.cops_whole.specs.SmallService.{lacking_actors, lacking_history, small_gates, small_history};
@@ -183,4 +186,15 @@ pub fn lives_of_services_are_served_causally()
         IsLivesRun config states history seats deeds → IsLogOfLives config history deeds log → IsTimeOf config tenant slot life prefix log →
         ((seat : ℕ) → AllByRecursion (Behaves (tenant_config config tenant) None) (commands_in_life slot life (deeds seat))) →
         LivesCausally config tenant slot life prefix (λ seat. commands_in_life slot life (deeds seat)) }
+{}
+
+/// Theorem: what the threads of a service did whose tenants come and go are the sessions of its clients' conversations, carriers
+/// and collections, each in a life, and the host's admissions and closes. If fewer than 2^62 turns were made at each node, one log
+/// serves each life causally until one of its calls gets `UnknownTenant`: each life of the configuration's tenants, and each that
+/// a line of the host began. A node that has the life in the end holds what its acts leave.
+///
+/// `who` is the tenant of each life. A life counts if each client that was greeted in it greeted as this tenant.
+pub fn lives_serve_causally<M: Moments>()
+    ensures { (config : Config) (workers : ℕ) (moments : M) (nodes : List Shared) (open_tenants : Roster) (who : ℕ → ℕ → Tenant) (served : AreServedInLives M.Gives moments config workers nodes open_tenants) → 0 < config.shards →
+        AreServedByDeeds M.Gives moments who config workers nodes open_tenants served }
 {}
