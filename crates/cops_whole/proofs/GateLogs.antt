@@ -120,7 +120,7 @@ module _ {M C R : Type 0} (turns : M → ℕ → ℕ → C → R → M → Type 
   own_is : (seat : ℕ) (did : Did seat) → turns_of seat history ≡ turns_of seat did.last.history
   own_is seat did = subst (λ n. turns_of n history ≡ turns_of n did.last.history) (grown_of seat did).number_is did.all_of.1
 
-  -- each turn is at a node that exists, since its seat was told so
+  -- each turn is at a node that exists, since its seat saw a reply from there
   history_placed : ArePlaced (length states) history
   history_placed = of_each (λ (t : Turn C R). t.node < length states) (λ t. t.seat) seats history run.seated (λ seat within.
       let did = run.did seat within in
