@@ -17,8 +17,8 @@ use Rattle.cops_node.specs.declared.hosted.SlotReply.{SlotReply}
 use Rattle.cops_node.specs.Hosting.{Hosted}
 use Rattle.cops_service.specs.Gates.{Gates}
 use Rattle.cops_service.specs.HostedCrews.{Hosting, IsLineTold, IsTenantLineTold}
-use Rattle.cops_whole.specs.LifeCrews.{FollowsSomeLine}
 use Rattle.cops_service.specs.HostedDesks.{CallsFirst, HostedSeat, IsHostCall, told_at_slot}
+use Rattle.cops_service.specs.LifeCrews.{FollowsSomeLine}
 use Rattle.cops_service.specs.Repeated.{Repeats}
 use Rattle.cops_service.specs.Rosters.{IsAdmissionTold, IsCloseTold, IsNotAdmitted, IsNotKept, Roster}
 use Rattle.cops_service.specs.declared.host_lines.HostLine.{HostLine}

@@ -21,8 +21,8 @@ use Rattle.cops_node.specs.Lacking.{MayLackAtSlot}
 use Rattle.cops_service.specs.Carried.{TakesSteps, carried_stream}
 use Rattle.cops_service.specs.Gates.{Gates, IsToldAtGate, openings}
 use Rattle.cops_service.specs.HostedCrews.{CallsInLife, CollectsPlace, DeliversInLife, life_of_place}
-use Rattle.cops_whole.specs.LifeCrews.{ServesInLife}
 use Rattle.cops_service.specs.HostedDesks.{HostedSeat}
+use Rattle.cops_service.specs.LifeCrews.{ServesInLife}
 use Rattle.cops_service.specs.Noted.{IsBetweenCentres, IsNodeThere}
 use Rattle.cops_service.specs.Repeated.{Repeats}
 use Rattle.cops_service.specs.declared.roster.Life.{Life}

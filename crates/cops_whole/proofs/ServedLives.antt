@@ -24,8 +24,8 @@ use Rattle.cops_node.specs.Parts.{Shared}
 use Rattle.cops_service.specs.Gates.{Gates, HasNoTurn, openings}
 use Rattle.cops_service.specs.Hosted.{HostedLog}
 use Rattle.cops_service.specs.HostedCrews.{Hosting}
-use Rattle.cops_whole.specs.LifeCrews.{AreServedInLives}
 use Rattle.cops_service.specs.HostedDesks.{HostedSeat}
+use Rattle.cops_service.specs.LifeCrews.{AreServedInLives}
 use Rattle.cops_service.specs.Repeated.{Repeats}
 use Rattle.cops_service.specs.Rosters.{Roster, first_roster}
 use Rattle.cops_history.specs.History.{Behaves}

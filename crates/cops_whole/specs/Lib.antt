@@ -8,7 +8,5 @@ pub mod SmallService
 pub mod Clients
 pub mod ServedBy
 pub mod LivesRuns
-pub mod SeatsDone
-pub mod LifeCrews
 pub mod LifeClients
 pub mod ServedLives

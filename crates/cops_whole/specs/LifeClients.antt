@@ -13,10 +13,10 @@ use Rattle.cops_history.specs.History.{Behaves, Told}
 use Rattle.cops_served.specs.Conversations.{AnswersEach}
 use Rattle.cops_service.specs.Gates.{Gates}
 use Rattle.cops_service.specs.HostedCrews.{CallsInLife}
-use Rattle.cops_whole.specs.LifeCrews.{ServesInLife, ServesLives}
 use Rattle.cops_service.specs.HostedDesks.{HostedSeat}
+use Rattle.cops_service.specs.LifeCrews.{ServesInLife, ServesLives}
 use Rattle.cops_service.specs.Repeated.{Repeats}
-use Rattle.cops_whole.specs.SeatsDone.{HasSinceDone}
+use Rattle.cops_service.specs.SeatsDone.{HasSinceDone}
 use Rattle.cops_service.specs.declared.roster.Life.{Life}
 use Rattle.cops_wire.specs.declared.messages.Message.{Message}
 use Rattle.cops_whole.specs.Clients.{Conversation, conversation_in}

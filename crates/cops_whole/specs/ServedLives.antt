@@ -13,8 +13,8 @@ use Rattle.cops_model.specs.Setups.{next_slot}
 use Rattle.cops_service.specs.Gates.{Gates}
 use Rattle.cops_service.specs.Hosted.{HostedLog}
 use Rattle.cops_service.specs.HostedCrews.{Hosting}
-use Rattle.cops_whole.specs.LifeCrews.{AreServedInLives, FollowsSomeLine}
 use Rattle.cops_service.specs.HostedDesks.{HostedSeat}
+use Rattle.cops_service.specs.LifeCrews.{AreServedInLives, FollowsSomeLine}
 use Rattle.cops_service.specs.Repeated.{Repeats}
 use Rattle.cops_service.specs.Rosters.{Roster, first_roster}
 use Rattle.cops_service.specs.declared.host_lines.HostLine.{HostLine}

@@ -24,7 +24,7 @@ ghost use Rattle.cops_service.specs.Crews.{AreServedBy};
 ghost use Rattle.cops_service.specs.Desks.{IsDeskCall, NodeSeat};
 ghost use Rattle.cops_service.specs.Gates.{Gates};
 ghost use Rattle.cops_service.specs.Hosted.{HostedLog};
-ghost use Rattle.cops_whole.specs.LifeCrews.{AreServedInLives};
+ghost use Rattle.cops_service.specs.LifeCrews.{AreServedInLives};
 ghost use Rattle.cops_service.specs.Rosters.{Roster};
 ghost use Rattle.cops_service.specs.Slots.{NodeLog};
 ghost use Rattle.cops_whole.specs.Threads.{AreCallsOfActors};

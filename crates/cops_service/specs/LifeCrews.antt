@@ -18,9 +18,9 @@ use Rattle.cops_service.specs.HostedDesks.{HostedSeat, IsInFirstLives, hosted_no
 use Rattle.cops_service.specs.HostedLeft.{LeavesEachHosted}
 use Rattle.cops_service.specs.Repeated.{IsRepeated}
 use Rattle.cops_service.specs.Rosters.{Roster, first_roster}
+use Rattle.cops_service.specs.SeatsDone.{AreThenOne, HasSeenAll, HasSinceDone}
 use Rattle.cops_service.specs.declared.host_lines.HostLine.{HostLine}
 use Rattle.cops_service.specs.declared.roster.Life.{Life}
-use Rattle.cops_whole.specs.SeatsDone.{AreThenOne, HasSeenAll, HasSinceDone}
 
 module _ (config : Config) (cluster : Gates Hosted) where
   -- ---- workers
