@@ -7,14 +7,14 @@ ghost use Rattle.cops_node.specs.Clusters.{shape_of};
 use crate::accepting::{Accepted, ServiceEnd, accept_each};
 use crate::ahead::Ahead;
 use crate::carrying_lives::{carry_lives, collect_lives};
-use crate::clients::serve_client;
+use crate::clients::serve_watched;
 use crate::dues::Collecting;
 use crate::following::follow;
 use crate::hellos::open_line;
 use crate::host_lines::{HostLine, HostLines};
 use crate::hosted_desk::{HostedDesk, LifeDesk};
 use crate::hosted_seats::HostedSeat;
-use crate::lines::{Incoming, Line, Outgoing, grace_of};
+use crate::lines::{Line, grace_of};
 use crate::living::LivingDesk;
 use crate::notes::{Notes, Stream};
 use crate::reports::{HostReports, Reports, Totals};
@@ -25,11 +25,11 @@ use crate::stops::Stop;
 use crate::tenant_host::TenantHost;
 use crate::threads::{Helpers, conclude};
 use crate::waiting::Waiting;
-use cops_types::{Config, RequestError, Sink, Source, Tenants};
+use crate::watching::Stay;
+use cops_types::{Config, RequestError, Tenants};
 use cops_wire::{Ended, Moments};
 use crossbeam_channel::Receiver;
 use std::alloc::{AllocError, Global};
-use std::io::Read;
 use std::net::TcpListener;
 use std::sync::Wait;
 use std::thread;
@@ -108,9 +108,20 @@ fn serve_life<R: Wait + Clock, L, T: Moments>(
         nodes.turn_to(life.slot, life.number);
     }
     let config = config_alone(together.alloc, nodes.config, resident.as_ref())?;
-    let source = Source::new(opened.bytes.as_slice().chain(Incoming { line }));
-    let sink = Sink::new(Outgoing { line });
-    serve_client(together.alloc, &config, source, sink, nodes, moments).ended
+    let stay = Stay::new(
+        together.rt,
+        together.residents,
+        resident.map(|resident| resident.life),
+    );
+    serve_watched(
+        together.alloc,
+        &config,
+        line,
+        opened.bytes.as_slice(),
+        stay,
+        nodes,
+        moments,
+    )
 }
 
 // Serves connections until none follows. One that fails ends alone.

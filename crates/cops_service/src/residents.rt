@@ -1,7 +1,11 @@
 //! The tenants that clients may be greeted as.
+ghost use Rattle.std.specs.Prelude.{◌≡◌, ◌&&◌, ◌==◌};
+ghost use Rattle.std.specs.List.{list_any};
+
 use crate::roster::Life;
 use cops_types::{Config, Tenant};
 use std::alloc::{AllocError, Global};
+use std::sync::atomic::{AtomicU64, Ordering};
 use std::sync::{Mutex, Wait};
 
 /// The most tenants at once.
@@ -19,6 +23,8 @@ pub(crate) struct Resident {
 #[derive(Drop)]
 pub(crate) struct Residents {
     residents: Mutex<Vec<Resident>>,
+    // How often a tenant has left. It is counted after the tenant was removed.
+    departures: AtomicU64,
 }
 
 // Enters a tenant, if there is room.
@@ -26,6 +32,14 @@ fn enter(residents: &mut Vec<Resident>, resident: Resident) {
     if residents.len() < residents.capacity() {
         residents.push_reserved(resident);
     }
+}
+
+// Returns `true` if a tenant is here in this life.
+fn is_among(residents: &[Resident], life: Life) -> bool
+    ensures { result ≡ list_any (λ resident. (resident.life.slot == life.slot)
+        && (resident.life.number == life.number)) residents.now }
+{
+    residents.iter().any(|resident| resident.life == life)
 }
 
 impl Residents {
@@ -48,6 +62,7 @@ impl Residents {
         }
         Ok(Residents {
             residents: Mutex::new(residents),
+            departures: AtomicU64::new(0),
         })
     }
 
@@ -61,6 +76,17 @@ impl Residents {
         self.residents
             .lock(rt)
             .retain(|resident| resident.tenant.name.bytes() != name);
+        self.departures.fetch_add(1, Ordering::SeqCst);
+    }
+
+    /// Returns how often a tenant has left. While this stays the same, those who are here stay.
+    pub(crate) fn departures(&self) -> u64 {
+        self.departures.load(Ordering::SeqCst)
+    }
+
+    /// Returns `true` if a tenant is here in this life.
+    pub(crate) fn have<R: Wait>(&self, rt: &R, life: Life) -> bool {
+        is_among(self.residents.lock(rt).as_slice(), life)
     }
 
     /// Returns the tenant with this token.

@@ -2,6 +2,7 @@
 
 from __future__ import annotations
 
+import socket
 import threading
 import unittest
 import uuid
@@ -10,11 +11,11 @@ import service as settings
 from audits import check_replays, records
 from cops_client.client import Connection
 from cops_client.faults import UnknownTenant
-from cops_client.frames import CreateContext, GetTrans, Handle, Hello, Message, Put, Ready, Refused
+from cops_client.frames import CreateContext, Created, DeleteContext, GetTrans, Handle, Hello, Message, Put, Ready, Refused, encode
 from hosting import Hosted, admission
-from model import UNKNOWN_TENANT, Alone, replies
+from model import SYNTAX, UNKNOWN_TENANT, Alone, replies
 from operated import wait_until
-from service import Service, Tenant, frames, head, messages, talk
+from service import Service, Tenant, frames, head, messages, read_to_end, talk
 
 ACME, BETA, GAMA, DELTA = Tenant("acme", 1), Tenant("beta", 2), Tenant("gama", 3), Tenant("delta", 4)
 FIRST = Handle(1)
@@ -165,7 +166,8 @@ class Closed(unittest.TestCase):
 
     def test_a_client_goes_on_after_its_close(self):
         with Hosted(head([ACME, BETA]), 4) as service:
-            with service.greeted(BETA) as connection, connection.context() as context:
+            with service.greeted(BETA) as connection:
+                context = connection.context()
                 context.put("x", "10")
                 service.close(BETA)
                 for _ in range(3):
@@ -180,6 +182,8 @@ class Closed(unittest.TestCase):
                     fresh.put("x", "20")
                     self.assertRaises(UnknownTenant, context.get, "x")
                     self.assertEqual(fresh.get("x")[0].value, b"20")
+                self.assertRaises(UnknownTenant, context.delete)
+                self.assertRaises(UnknownTenant, connection.context)
             audit = service.end()
         self.assertEqual(heads_names(audit), ["acme", "gama"])
         self.assertFalse([record for record in records(audit, GAMA) if "3130" in record or "3132" in record])
@@ -189,7 +193,8 @@ class Closed(unittest.TestCase):
         """By the same tenant in a second life, and by another one."""
         again = Tenant("gama", BETA.number)
         with Hosted(head([ACME, BETA]), 4) as service:
-            with service.greeted(BETA) as connection, connection.context() as context:
+            with service.greeted(BETA) as connection:
+                context = connection.context()
                 context.put("x", "10")
                 for tenant in (BETA, again):
                     service.close(BETA)
@@ -203,6 +208,109 @@ class Closed(unittest.TestCase):
         self.assertEqual(heads_names(audit), ["acme", "gama"])
         self.assertEqual(sum(" put " in record for record in records(audit, again)), 1)
         check_replays(self, audit, [ACME, again])
+
+
+class Raw(Connection):
+    """A connection on which frames are sent in pieces."""
+
+    def write(self, piece: bytes) -> None:
+        self._write(piece)
+
+    def rest(self) -> list[Message]:
+        """Ends its own side, and gives all that is still answered."""
+        self._open().shutdown(socket.SHUT_WR)
+        return messages(read_to_end(self._open()))
+
+
+class Refusals(unittest.TestCase):
+    """After the close of its life each request of a connection is refused, also one that reaches no node."""
+
+    REQUESTS: list[Message] = [
+        CreateContext(),
+        DeleteContext(FIRST),
+        Put(FIRST, b"x", b"10"),
+        GetTrans(FIRST, (b"x",)),
+        # Syntax, BadKey and NoContext aren't looked for.
+        Put(FIRST, b"", b"10"),
+        GetTrans(FIRST, ()),
+        DeleteContext(Handle(9)),
+    ]
+
+    def begun(self, service: Hosted, tenant: Tenant, more: bytes = b"") -> Raw:
+        """A connection that is greeted as a tenant and has a context. The request for it comes with more bytes."""
+        connection = Raw(service.stream())
+        connection.send(Hello(tenant.token, 0))
+        self.assertEqual(connection.receive(), Ready())
+        connection.write(encode(CreateContext()) + more)
+        self.assertEqual(connection.receive(), Created(FIRST))
+        return connection
+
+    def assert_refused(self, connection: Raw) -> None:
+        """One after another, and all at once."""
+        for request in self.REQUESTS:
+            connection.send(request)
+            self.assertEqual(connection.receive(), Refused(UNKNOWN_TENANT))
+        many = self.REQUESTS * 300
+        connection.send(*many)
+        self.assertEqual([connection.receive() for _ in many], [Refused(UNKNOWN_TENANT)] * len(many))
+
+    def test_each_request(self):
+        with Hosted(head([ACME, BETA]), 4) as service:
+            with self.begun(service, BETA) as connection:
+                service.close(BETA)
+                self.assert_refused(connection)
+                # Another tenant gets the slot, and then a second life of the same one.
+                for tenant in (GAMA, BETA):
+                    service.admit(tenant)
+                    self.assert_refused(connection)
+                    with self.begun(service, tenant) as other:
+                        self.assert_refused(connection)
+                        other.send(Put(FIRST, b"x", b"20"))
+                        self.assertNotIsInstance(other.receive(), Refused)
+                    service.close(tenant)
+            audit = service.end()
+        self.assertEqual(heads_names(audit), ["acme"])
+        check_replays(self, audit, [ACME])
+
+    def test_a_frame_that_is_cut_by_the_close(self):
+        with Hosted(head([ACME, BETA]), 4) as service:
+            for request in self.REQUESTS:
+                frame = encode(request)
+                for cut in range(1, len(frame)):
+                    with self.begun(service, BETA, frame[:cut]) as connection:
+                        service.close(BETA)
+                        connection.write(frame[cut:])
+                        self.assertEqual(connection.receive(), Refused(UNKNOWN_TENANT))
+                        self.assert_refused(connection)
+                    service.admit(BETA)
+            check_replays(self, service.end(), [ACME, BETA])
+
+    def test_a_neighbours_close(self):
+        """It refuses nobody else."""
+        with Hosted(head([ACME, BETA]), 4) as service, self.begun(service, ACME) as connection:
+            for number in range(20):
+                service.close(BETA)
+                for request in (Put(FIRST, b"x", b"%d" % number), GetTrans(FIRST, (b"x",))):
+                    connection.send(request)
+                    self.assertNotIsInstance(connection.receive(), Refused)
+                service.admit(BETA)
+            connection.close()
+            check_replays(self, service.end(), [ACME, BETA])
+
+    def test_the_end_of_a_refused_connection(self):
+        """It is as that of one that is served."""
+        with Hosted(head([ACME, BETA]), 4) as service:
+            for last, refusals in ((b"", []), (encode(Hello(BETA.token, 0)), [SYNTAX]), (b"\0\0\0\1\x63", [SYNTAX]), (b"\0\0", [SYNTAX])):
+                with self.begun(service, BETA) as connection:
+                    service.close(BETA)
+                    connection.write(encode(CreateContext()) + last)
+                    self.assertEqual(connection.rest(), [Refused(it) for it in (UNKNOWN_TENANT, *refusals)])
+                service.admit(BETA)
+            # A client need not wait for Ready.
+            with Raw(service.stream()) as connection:
+                connection.send(Hello(BETA.token, 0), CreateContext())
+                self.assertEqual([connection.receive(), connection.receive()], [Ready(), Created(FIRST)])
+            service.end()
 
 
 class Beside(unittest.TestCase):
