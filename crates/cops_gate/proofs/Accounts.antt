@@ -399,7 +399,7 @@ module _ {M C R : Type 0} where
 
   -- ---- the first seat, when all have ended into it
 
-  only_seat : (vs : List (View M C R)) (id : ℕ) (v : View M C R) → AreCounted vs → get_elem? vs id ≡ some v → IsComplete v.account → (j : ℕ) (w : View M C R) → get_elem? vs j ≡ some w → w.is_seat ≡ true → j ≡ id
+  pub only_seat : (vs : List (View M C R)) (id : ℕ) (v : View M C R) → AreCounted vs → get_elem? vs id ≡ some v → IsComplete v.account → (j : ℕ) (w : View M C R) → get_elem? vs j ≡ some w → w.is_seat ≡ true → j ≡ id
   only_seat vs id v k at complete j w wj seat =
       let all = k.all id v at complete.first in
       let few : all_counted vs ≤ v.account.unjoined = all.counted in

@@ -18,13 +18,13 @@ use Rattle.cops_gate.specs.declared.board.Stage.TheVariants.{Idle, Waits, Holds}
 use Rattle.cops_gate.specs.declared.board.View.{View}
 use Rattle.cops_gate.specs.History.{turn, turns_of, turns_at, StartsWith, Leads, IsLegal, IsWhole}
 use Rattle.cops_gate.specs.Accounts.{IsComplete, no_account}
-use Rattle.cops_gate.specs.Rule.{ticket_at, serving_at, Apart, AreCovered, AreDistinctNumbers, AreJoinedOnce, HasTicket, HoldsItsTicket, AreCounted, IsCovered, IsOut, Kept, Knows, Met, Rests, Stands, newcomer}
+use Rattle.cops_gate.specs.Rule.{ticket_at, serving_at, Apart, AreCovered, AreDistinctNumbers, HasTicket, HoldsItsTicket, AreCounted, IsCovered, IsHeld, IsOut, Kept, Knows, Met, Rests, Stands, newcomer}
 use Rattle.cops_gate.specs.Plays.{Sat, at_stage, spent_view, published_view, fresh_view, fork_view, forked_view, numbered_view, told_view, joined_view, ended_view, KnowsTurnsOf, DrawnAt, HasRoom, PublishedAt, learned, glanced, drawn, published, looked, Gets}
 use Rattle.cops_gate.specs.Seats.{AreAtRest, AreMadeBy, ClosesWith, Known, Origin}
-use Rattle.cops_gate.proofs.Accounts.{all_by_it, all_distinct, all_seen, counted_again, counted_end, counted_fork, counted_more, covered_again, covered_end, covered_fork, covered_more, fork_joined_none, met_parts, once_again, once_end, once_fork, once_more}
+use Rattle.cops_gate.proofs.Accounts.{all_by_it, all_distinct, all_seen, counted_again, counted_end, counted_fork, counted_more, covered_again, covered_end, covered_fork, covered_more, fork_joined_none, met_parts, only_seat, once_again, once_end, once_fork, once_more}
 use Rattle.cops_gate.proofs.Ending.{all_joined, all_weaker}
 use Rattle.cops_gate.proofs.Histories.{starts_on, turns_other, turns_mine, node_other, node_mine, node_parts, none_before, placed_on}
-use Rattle.cops_gate.proofs.Words.{apart_words, word_there, ticket_else, ticket_here, ticket_serving, serving_ticket, serving_else, serving_here, true_not_false, waits_not_holds, idle_not_holds, waits_same, holds_same}
+use Rattle.cops_gate.proofs.Words.{apart_words, word_at, word_there, ticket_else, ticket_here, ticket_serving, serving_ticket, serving_else, serving_here, true_not_false, waits_not_holds, idle_not_holds, waits_same, holds_same}
 
 -- lists read by `get_elem?`
 module _ {A : Type 0} where
@@ -117,6 +117,19 @@ module _ {M C R P : Type 0} (turns : M → ℕ → ℕ → C → R → M → Typ
       (λ here. (id, w, set_at vs id v w at, still (ap (λ (x : V). x.stage) (some-injective v out.1 (sym at ∙ subst (λ k. get_elem? vs k ≡ some out.1) here out.2)) ∙ out.3)))
       (λ other. (out.0, out.1, set_else vs id out.0 w other ∙ out.2, out.3))
 
+  -- a seat that stays keeps its tickets
+  held_stays : (vs : List V) (id n t : ℕ) (v w : V) → get_elem? vs id ≡ some v → (v.is_seat ≡ true → HasTicket n t v.stage → (w.is_seat ≡ true) × HasTicket n t w.stage) → IsHeld n t vs → IsHeld n t (set vs id w)
+  held_stays vs id n t v w at still held = dite (ℕ_discrete held.0 id)
+      (λ here.
+      let same : held.1 ≡ v = some-injective held.1 v (sym held.2 ∙ (ap (get_elem? vs) here ∙ at)) in
+      let kept = still (ap (λ (x : V). x.is_seat) (sym same) ∙ held.3) (subst (λ (x : V). HasTicket n t x.stage) same held.4) in
+      (id, w, set_at vs id v w at, kept.0, kept.1))
+      (λ other. (held.0, held.1, set_else vs id held.0 w other ∙ held.2, held.3, held.4))
+
+  -- a view comes
+  held_beside : (vs : List V) (n t : ℕ) (w : V) → IsHeld n t vs → IsHeld n t (vs ++ w ∷ [])
+  held_beside vs n t w held = (held.0, held.1, at_longer vs (w ∷ []) held.0 held.1 held.2, held.3, held.4)
+
   -- a node at which the step did nothing
   stands_else : (s s' : St) (log log' : List (Turn C R)) (m : ℕ) (first : M) → ticket_at s'.words m ≡ ticket_at s.words m → serving_at s'.words m ≡ serving_at s.words m → turns_at m log' ≡ turns_at m log → get_elem? s'.homes m ≡ get_elem? s.homes m
       → (IsOut m (serving_at s.words m) s.views → IsOut m (serving_at s.words m) s'.views) → Stands turns place from.ticket s log m first → Stands turns place from.ticket s' log' m first
@@ -148,6 +161,7 @@ module _ {M C R P : Type 0} (turns : M → ℕ → ℕ → C → R → M → Typ
     each_seat = each_set (Knows from s.words r.log) s.views id w mine (λ j u _. r.each_seat j u);
     unmade = λ j l. r.unmade j (subst (λ k. k ≤ j) (length-set s.views id w) l);
     apart = apart_set s.views id v w at (λ n t h. subst (HasTicket n t) same h) r.apart;
+    held = λ n t inside due below. held_stays s.views id n t v w at (λ seat has. (still.1 ∙ seat, subst (HasTicket n t) (sym same) has)) (r.held n t inside due below);
     counted = counted_again s.views id v w at still.0 still.1 r.counted;
     once = once_again s.views id v w at (ap (λ (x : Account). x.joined) still.0) r.once;
     covered = still_covered s.views id v w r.log at still r.covered;
@@ -174,6 +188,7 @@ module _ {M C R P : Type 0} (turns : M → ℕ → ℕ → C → R → M → Typ
         let old : (k : ℕ) (c : V) → get_elem? (s.views ++ w ∷ []) k ≡ some c → HasTicket n t c.stage → get_elem? s.views k ≡ some c
         = λ k c e h. ⊎_elim (λ o. o) (λ (y : (k ≡ length s.views) × (w ≡ c)). absurd (subst (HasTicket n t) (ap (λ (z : V). z.stage) (sym y.1) ∙ idle) h)) (at_end s.views w c k e) in
         r.apart i j a b n t (old i a ai ha) (old j b bj hb) ha hb;
+    held = λ n t inside due below. held_beside s.views n t w (r.held n t inside due below);
     counted = counted;
     once = once_more s.views w none_joined r.once;
     covered = covered;
@@ -245,6 +260,7 @@ module _ {M C R P : Type 0} (turns : M → ℕ → ℕ → C → R → M → Typ
         apart = λ i j a b n t ai bj ha hb.
             let old : (x : ℕ) (c : V) → get_elem? all x ≡ some c → HasTicket n t c.stage → get_elem? vs x ≡ some c = λ x c e h. ⊎_elim (λ o. o) (λ (y : (x ≡ length vs) × (new ≡ c)). absurd (subst (HasTicket n t) (ap (λ (z : V). z.stage) (sym y.1)) h)) (at_end vs new c x e) in
             apart_set s.views id v w at (λ m y h. h) r.apart i j a b n t (old i a ai ha) (old j b bj hb) ha hb;
+        held = λ n t inside due below. held_beside vs n t new (held_stays s.views id n t v w at (λ is has. (is, has)) (r.held n t inside due below));
         counted = counts;
         once = once_fork s.views id v at seat r.counted r.once;
         covered = covers;
@@ -293,6 +309,7 @@ module _ {M C R P : Type 0} (turns : M → ℕ → ℕ → C → R → M → Typ
         each_seat = each_set (Knows from s.words r.log) vs other ended_view (ended_knows s r other) (λ j u _. each_set (Knows from s.words r.log) s.views id into mine (λ i x _. r.each_seat i x) j u);
         unmade = λ j l. let one = length-set s.views id into in let two = length-set vs other ended_view in r.unmade j (omega arith);
         apart = apart_set vs other w ended_view there (λ n t h. absurd h) (apart_set s.views id v into at (λ n t h. h) r.apart);
+        held = λ n t inside due below. held_stays vs other n t w ended_view there (λ _ has. absurd (subst (HasTicket n t) idle has)) (held_stays s.views id n t v into at (λ is has. (is, has)) (r.held n t inside due below));
         counted = counted_end s.views id other v w apart at there_before seat number r.counted;
         once = once_end s.views id other v w apart at there_before seat number r.counted (o.seated known) r.once;
         covered = all_weaker (λ (t : Turn C R). IsCovered s.views t.seat) (λ (t : Turn C R). IsCovered all t.seat) r.log (λ t c. covered_end s.views id other v w apart at there_before seat number numbered t.seat c) r.covered;
@@ -379,9 +396,9 @@ module _ {M C R P : Type 0} (turns : M → ℕ → ℕ → C → R → M → Typ
   inside s r n first known = let a : n < length from.states = at_below from.states n first known in let b : length s.words ≡ 16 * length from.states = r.wide in omega arith
 
   -- the ticket t of the node n is drawn
-  drew : (s : St) (r : Rule s) (id n t x : ℕ) (first : M) (cs : List (ℕ × M)) (v : V) → get_elem? from.states n ≡ some first → get_elem? s.views id ≡ some v → v.stage ≡ Idle → t ≡ ticket_at s.words n → t < 2 ^ 62 → x ≡ t + 1
+  drew : (s : St) (r : Rule s) (id n t x : ℕ) (first : M) (cs : List (ℕ × M)) (v : V) → get_elem? from.states n ≡ some first → get_elem? s.views id ≡ some v → v.stage ≡ Idle → v.numbered ≡ true → t ≡ ticket_at s.words n → t < 2 ^ 62 → x ≡ t + 1
       → Rule (stepped s (16 * n) x id cs (at_stage (Waits n t) v) keeps)
-  drew s r id n t x first cs v known at idle is left next =
+  drew s r id n t x first cs v known at idle numbered is left next =
       let w : V = at_stage (Waits n t) v in
       let ws : List ℕ = set s.words (16 * n) x in
       let within : 16 * n < length s.words = let a : 16 * n + 1 < length s.words = inside s r n first known in omega arith in
@@ -405,6 +422,15 @@ module _ {M C R P : Type 0} (turns : M → ℕ → ℕ → C → R → M → Typ
             record { same = q.same; seen = q.seen; told = q.told; owns = q.owns; seated = q.seated; joined = q.joined; queues = queues_grow s.words ws r.log u.seen u.stage sv more q.queues; spent = later u q.spent });
         unmade = λ j l. r.unmade j (subst (λ y. y ≤ j) (length-set s.views id w) l);
         apart = apart_new s.views id n t w (λ j u y e h. subst (λ z. y < z) (sym is) (has_below s.words n y r.log u.seen u.stage (r.each_seat j u e).queues h)) (λ m y h. (sym h.0, sym h.1)) r.apart;
+        held = λ m y inside due below.
+            let due_before : serving_at s.words m ≤ y = subst (λ z. z ≤ y) (sv m) due in
+            let stays : IsHeld m y s.views → IsHeld m y (set s.views id w) = held_stays s.views id m y v w at (λ _ has. absurd (subst (HasTicket m y) idle has)) in
+            dite (ℕ_discrete m n)
+            (λ here. dite (ℕ_discrete y t)
+            (λ new. (id, w, set_at s.views id v w at, k.seated numbered, (sym here, sym new)))
+            (λ older. let top : y < x = subst (λ z. y < z) (ap (ticket_at ws) here ∙ mine) below in
+            stays (r.held m y inside due_before (subst (λ j. y < ticket_at s.words j) (sym here) (omega arith)))))
+            (λ there. stays (r.held m y inside due_before (subst (λ z. y < z) (tk m there) below)));
         counted = counted_again s.views id v w at refl refl r.counted;
         once = once_again s.views id v w at refl r.once;
         covered = still_covered s.views id v w r.log at (refl, refl, (λ e. (e, refl))) r.covered;
@@ -420,9 +446,9 @@ module _ {M C R P : Type 0} (turns : M → ℕ → ℕ → C → R → M → Typ
             (λ m f other there. stands_else s s' r.log r.log m f (tk m other) (sv m) refl refl (λ o. out_stays s.views id m (serving_at s.words m) v w at (not_out m (serving_at s.words m)) o) (r.each_node m f there));
       }
 
-  pub draws : (slots id : ℕ) (me : Sat M C R) (n : ℕ) (first : M) (old new : ℕ) → get_elem? from.states n ≡ some first → me.0.stage ≡ Idle → old < 2 ^ 62 → new ≡ old + 1
+  pub draws : (slots id : ℕ) (me : Sat M C R) (n : ℕ) (first : M) (old new : ℕ) → get_elem? from.states n ≡ some first → me.0.stage ≡ Idle → me.0.numbered ≡ true → old < 2 ^ 62 → new ≡ old + 1
       → Allows Rule slots id me (16 * n) (λ x. either (eqb x old) new x) (drawn (step slots (16 * n) old new none) me)
-  draws slots id me n first old new known idle left next s r wide at small =
+  draws slots id me n first old new known idle numbered left next s r wide at small =
       let x : ℕ = ticket_at s.words n in
       let k = r.each_seat id me.0 at in let most : x ≤ 2 ^ 62 = (r.each_node n first known).most in
       let gone : Met n me.0.spent → x ≡ 2 ^ 62 = k.spent n in
@@ -434,7 +460,7 @@ module _ {M C R P : Type 0} (turns : M → ℕ → ℕ → C → R → M → Typ
         at_stage (Waits n x) me.0,
         keeps,
         tt,
-        drew s r id n x new first me.1 me.0 known at idle refl (omega arith) (omega arith),
+        drew s r id n x new first me.1 me.0 known at idle numbered refl (omega arith) (omega arith),
         tells (at_stage (Waits n x) me.0, me.1) (refl, most, gone, room, (λ _. refl), (λ ne _. absurd (ne hit)), (λ ne _. absurd (ne hit))),
       ))
       (λ miss. dite (ℕ_discrete x (2 ^ 62))
@@ -485,6 +511,7 @@ module _ {M C R P : Type 0} (turns : M → ℕ → ℕ → C → R → M → Typ
             (λ j u _. r.each_seat j u);
         unmade = λ j l. r.unmade j (subst (λ x. x ≤ j) (length-set s.views id w) l);
         apart = apart_set s.views id v w at (λ m x e. subst (HasTicket m x) (sym waits) e) r.apart;
+        held = λ m y inside due below. held_stays s.views id m y v w at (λ is has. (is, subst (HasTicket m y) waits has)) (r.held m y inside due below);
         counted = counted_again s.views id v w at refl refl r.counted;
         once = once_again s.views id v w at refl r.once;
         covered = still_covered s.views id v w r.log at (refl, refl, (λ e. (e, refl))) r.covered;
@@ -598,6 +625,14 @@ module _ {M C R P : Type 0} (turns : M → ℕ → ℕ → C → R → M → Typ
             });
         unmade = λ j l. let far : length s.views ≤ j = subst (λ y. y ≤ j) (length-set s.views id w) l in let in_range = at_below s.views id v at in others j (λ y. omega arith) ∙ r.unmade j far;
         apart = apart_set s.views id v w at (λ m y f. absurd f) r.apart;
+        held = λ m y inside due below.
+            let below_before : y < ticket_at s.words m = subst (λ z. y < z) (tk m) below in
+            dite (ℕ_discrete m n)
+            (λ this. let later : serving_at s.words n + 1 ≤ y = subst (λ z. z ≤ y) (ap (serving_at ws) this ∙ after) due in
+            held_stays s.views id m y v w at (λ _ has. let own : (n ≡ m) × (t ≡ y) = subst (HasTicket m y) holds has in let same : t ≡ y = own.1 in absurd (omega arith))
+            (r.held m y inside (subst (λ j. serving_at s.words j ≤ y) (sym this) (omega arith)) below_before))
+            (λ there. held_stays s.views id m y v w at (λ _ has. let own : (n ≡ m) × (t ≡ y) = subst (HasTicket m y) holds has in absurd (there (sym own.0)))
+            (r.held m y inside (subst (λ z. z ≤ y) (sv m there) due) below_before));
         counted = counted_again s.views id v w at refl refl r.counted;
         once = once_again s.views id v w at refl r.once;
         covered = all_joined (λ (y : Turn C R). IsCovered (set s.views id w) y.seat) r.log (it ∷ []) (still_covered s.views id v w r.log at (refl, refl, (λ f. (f, refl))) r.covered) ((id, w, set_at s.views id v w at, numbered, inl refl), tt);
@@ -682,6 +717,10 @@ module _ {M C R P : Type 0} (turns : M → ℕ → ℕ → C → R → M → Typ
         record { same = refl; seen = ([], refl); told = ([], refl); owns = ((λ _. (refl, refl)), (λ _ _. refl)); seated = λ _. refl; joined = λ j met. absurd met; queues = tt; spent = λ n met. absurd met };
     unmade = λ j l. refl;
     apart = λ i j a b n x ai bj ha hb. (only_one (newcomer from) a i ai).0 ∙ sym (only_one (newcomer from) b j bj).0;
+    held = λ n t inside due below.
+        let tk : ticket_at ws n ≡ from.ticket = each (16 * n) (omega arith) in
+        let sv : serving_at ws n ≡ from.ticket = each (16 * n + 1) (omega arith) in
+        let least : serving_at ws n ≤ t = due in let most_of_it : t < ticket_at ws n = below in absurd (omega arith);
     counted = record {
       one = λ i j a b ai bj fa fb. (only_one (newcomer from) a i ai).0 ∙ sym (only_one (newcomer from) b j bj).0;
       all = λ i a ai fa.
@@ -771,10 +810,19 @@ module _ {M C R P : Type 0} (turns : M → ℕ → ℕ → C → R → M → Typ
         (λ n met. met_there s r n (k.spent n met)),
       )
 
-  word_at : (ws : List ℕ) (i x : ℕ) → get_elem? ws i ≡ some x → get_or ws i 0 ≡ x
-  word_at [] i x e = absurd (some-ne-none x (sym e))
-  word_at (w ∷ ws) zero x e = some-injective w x e
-  word_at (w ∷ ws) (suc i) x e = word_at ws i x e
+  -- Once each seat that was split off from the first one has ended into it, and it makes no turn, each ticket that was drawn has been served
+  pub all_served : (id : ℕ) (v : V) (ws : List ℕ) (hs : List M) → v.stage ≡ Idle → Final (Seen Rule id v) ws hs → IsComplete v.account → (n : ℕ) → n < length from.states → ticket_at ws n ≡ serving_at ws n
+  all_served id v ws hs idle final complete n inside =
+      let s : St = final.0 in let r : Rule s = final.1.0 in
+      let node = there_at from.states n inside in
+      let served : serving_at s.words n ≤ ticket_at s.words n = (r.each_node n node.0 node.1).served in
+      let none : IsHeld n (serving_at s.words n) s.views → ⊥
+      = λ held.
+      let here : held.0 ≡ id = only_seat s.views id v r.counted final.1.1 complete held.0 held.1 held.2 held.3 in
+      let same : held.1 ≡ v = some-injective held.1 v (sym held.2 ∙ (ap (get_elem? s.views) here ∙ final.1.1)) in
+      subst (HasTicket n (serving_at s.words n)) (ap (λ (x : V). x.stage) same ∙ idle) held.4 in
+      subst (λ l. ticket_at l n ≡ serving_at l n) final.2
+      (dite (ℕ_discrete (ticket_at s.words n) (serving_at s.words n)) (λ e. e) (λ ne. absurd (none (r.held n (serving_at s.words n) inside (omega arith) (omega arith)))))
 
   -- the same of the machines that are taken out, with what the gate and the seat say of themselves
   pub gives_back : (id : ℕ) (v : V) (ws : List ℕ) (hs : List M) (given : List (Option M)) (gate : Origin M) (seat : Known M C R) → v.numbered ≡ true → Final (Seen Rule id v) ws hs → AreAtRest ws hs given

@@ -1,5 +1,7 @@
 -- The words of a table, and the stages of a seat.
 use Rattle.std.proofs.Common.{◌≡◌, ◌≢◌, ℕ, zero, suc, ◌+◌, ◌*◌, ◌<◌, true, false, List, [], ◌∷◌, length, get_or, set, sym, refl, ap, subst, arith}
+use mathlib.Core.Option.{some, some-injective, some-ne-none}
+use lib.ListN.{get_elem?}
 use Rattle.cops_gate.specs.declared.board.Stage.{Stage}
 use Rattle.cops_gate.specs.declared.board.Stage.TheVariants.{Idle, Waits, Holds}
 use Rattle.cops_gate.specs.Rule.{ticket_at, serving_at}
@@ -19,9 +21,14 @@ word_here (w ∷ ws) (suc i) x h = word_here ws i x (omega arith)
 
 -- a word that isn't 0 is in the table
 pub word_there : (ws : List ℕ) (i x : ℕ) → get_or ws i 0 ≡ x → 0 < x → i < length ws
-word_there [] i x is some = absurd (omega (arith, is, some))
-word_there (w ∷ ws) zero x is some = omega arith
-word_there (w ∷ ws) (suc i) x is some = let within = word_there ws i x is some in omega (arith, within)
+word_there [] i x is more = absurd (omega (arith, is, more))
+word_there (w ∷ ws) zero x is more = omega arith
+word_there (w ∷ ws) (suc i) x is more = let within = word_there ws i x is more in omega (arith, within)
+
+pub word_at : (ws : List ℕ) (i x : ℕ) → get_elem? ws i ≡ some x → get_or ws i 0 ≡ x
+word_at [] i x e = absurd (some-ne-none x (sym e))
+word_at (w ∷ ws) zero x e = some-injective w x e
+word_at (w ∷ ws) (suc i) x e = word_at ws i x e
 
 -- where the words of a node lie
 pub apart_words : (m n : ℕ) → 16 * m ≡ 16 * n → m ≡ n

@@ -1,5 +1,5 @@
 //! A gate of several machines, and its seats.
-ghost use Rattle.std.specs.Prelude.{◌≡◌, ◌≢◌, ℕ, ◌+◌, ◌*◌, ◌<◌, ◌^◌, length, ◌≤◌, ◌⊎◌, [], true, ◌∷◌, ◌++◌, Some, None, Err, IfOk, IfErr, IfSome, OnErr, replicate, false, slice_set, vec_capacity};
+ghost use Rattle.std.specs.Prelude.{◌≡◌, ◌≢◌, ℕ, ◌+◌, ◌*◌, ◌<◌, ◌^◌, length, ◌≤◌, ◌⊎◌, [], true, ◌∷◌, ◌++◌, Some, None, Err, IfOk, IfErr, IfSome, IsSome, OnErr, replicate, false, slice_set, vec_capacity};
 ghost use Rattle.std.specs.List.{AllByRecursion};
 ghost use Rattle.std.specs.Mem.Slots.{slots_items, slots_filled, slots_len, IsFull};
 ghost use Rattle.std.specs.Mem.Slots.Ownership.{Filled};
@@ -10,9 +10,9 @@ ghost use Rattle.cops_types.specs.declared.request_errors.RequestError.TheVarian
 ghost use Rattle.cops_types.specs.RequestErrors.{IfRefusal};
 ghost use Rattle.cops_gate.specs.declared.board.Stage.TheVariants.{Idle};
 ghost use Rattle.cops_gate.specs.History.{entry, turns_of, StartsWith, IsWhole, LeavesLacking};
-ghost use Rattle.cops_gate.specs.Rule.{Met};
+ghost use Rattle.cops_gate.specs.Rule.{AreServed, Met, serving_at, ticket_at};
 ghost use Rattle.cops_gate.specs.Plays.{HasRoom, IsTableFor};
-ghost use Rattle.cops_gate.specs.Accounts.{fork_of};
+ghost use Rattle.cops_gate.specs.Accounts.{IsComplete, fork_of};
 ghost use Rattle.cops_gate.specs.Seats.{AreAtRest, ClosesWith, Extends, HasAllOf, IsAtRest, Known, Origin, all_joined, all_spent, first_seat, gate_home, joined_by, split_off};
 
 use crate::board::{Beginning, Board, BoardSeat};
@@ -254,12 +254,14 @@ impl<M: Machine> ClusterGate<M> {
 
 impl<M: Machine + Drop> ClusterGate<M> {
     /// Closes the gate. Returns the machines by number, in `room`; none of a node where a ticket that
-    /// was drawn has not been served.
+    /// was drawn has not been served. If each seat that was split off from the first one has ended
+    /// into it, and it closes the gate, there is no such ticket.
     pub fn close(self, seat: ClusterSeat<M>, room: Vec<Option<M>>) -> Vec<Option<M>>
         requires seat { seat.gate ≡ gate_home self }
         requires room { (room.items ≡ []) × (length self.opening ≤ vec_capacity room) }
         ensures history { ClosesWith M.turns M.place self seat result.items }
         ensures all { length result.items ≡ length self.opening }
+        ensures complete { IsComplete seat.account → AllByRecursion IsSome result.items }
     {
         let ClusterGate { board, sleepers } = self;
         let count = sleepers.len();
@@ -271,7 +273,8 @@ impl<M: Machine + Drop> ClusterGate<M> {
     pub(crate) fn close_only(self, seat: ClusterSeat<M>) -> Option<M>
         requires seat { seat.gate ≡ gate_home self }
         requires only { length self.opening ≡ 1 }
-        ensures { ClosesWith M.turns M.place self seat (result ∷ []) }
+        ensures history { ClosesWith M.turns M.place self seat (result ∷ []) }
+        ensures complete { IsComplete seat.account → IsSome result }
     {
         let ClusterGate { board, sleepers: _ } = self;
         let mut closed = board.close_with(seat.into_place());
@@ -288,6 +291,7 @@ fn take_one<M: Drop>(closed: &mut Closed<M, Global>, node: usize) -> Option<M>
     ensures same { (closed.new.words ≡ closed.old.words) × (slots_items closed.new.slots ≡ slots_items closed.old.slots) × (slots_len closed.new.slots ≡ slots_len closed.old.slots) }
     ensures taken { slots_filled closed.new.slots ≡ slice_set (slots_filled closed.old.slots) node false }
     ensures some { IfSome result (IsAtRest (slots_items closed.old.words) (slots_items closed.old.slots) node) }
+    ensures served { ticket_at (slots_items closed.old.words) node ≡ serving_at (slots_items closed.old.words) node → IsSome result }
 {
     let (drawn, served) = (closed.word(16 * node), closed.word(16 * node + 1));
     let machine = closed.take(node);
@@ -306,6 +310,7 @@ fn take_all<M: Drop>(
     requires room { (machines.items ≡ []) × (count ≤ vec_capacity machines) }
     ensures all { length result.items ≡ count }
     ensures left { AreAtRest (slots_items closed.words) (slots_items closed.slots) result.items }
+    ensures served { AreServed (slots_items closed.words) count → AllByRecursion IsSome result.items }
 {
     let mut node = 0;
     while node < count {

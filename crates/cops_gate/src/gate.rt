@@ -1,12 +1,12 @@
 //! A gate of one machine, and its seats. It is a gate of several machines with one node.
-ghost use Rattle.std.specs.Prelude.{◌≡◌, ◌≢◌, ◌+◌, ◌^◌, length, ◌≤◌, ◌⊎◌, [], ◌∷◌, Some, None, Err, IfOk, IfErr, IfSome};
+ghost use Rattle.std.specs.Prelude.{◌≡◌, ◌≢◌, ◌+◌, ◌^◌, length, ◌≤◌, ◌⊎◌, [], ◌∷◌, Some, None, Err, IfOk, IfErr, IfSome, IsSome};
 ghost use Rattle.cops_types.specs.declared.faults.Fault.TheVariants.{GateSpent};
 ghost use Rattle.cops_types.specs.declared.request_errors.RequestError.TheVariants.{OutOfMemory, Refused};
 ghost use Rattle.cops_types.specs.RequestErrors.{IfRefusal};
 ghost use Rattle.cops_gate.specs.Filtered.{GrowsThere, LacksThere};
 ghost use Rattle.cops_gate.specs.History.{entry, turns_at, turns_of, IsLegal, StartsWith};
 ghost use Rattle.cops_gate.specs.Rule.{Met};
-ghost use Rattle.cops_gate.specs.Accounts.{fork_of};
+ghost use Rattle.cops_gate.specs.Accounts.{IsComplete, fork_of};
 ghost use Rattle.cops_gate.specs.Seats.{Known, first_seat, split_off};
 ghost use Rattle.cops_gate.specs.Single.{ClosesAlone, SingleOrigin, as_cluster, only, single_home};
 
@@ -134,11 +134,13 @@ impl<M: Machine> Gate<M> {
 }
 
 impl<M: Machine + Drop> Gate<M> {
-    /// Closes the gate. Returns the machine, if each ticket that was drawn has been served.
+    /// Closes the gate. Returns the machine, if each ticket that was drawn has been served. This is so
+    /// if each seat that was split off from the first one has ended into it, and it closes the gate.
     pub fn close(self, seat: GateSeat<M>) -> Option<M>
         requires { seat.gate ≡ single_home self }
         ensures history { IfSome result (λ m. ClosesAlone M.turns self seat m) }
         ensures place { IfSome result (λ m. M.place m ≡ M.place self.opening) }
+        ensures complete { IsComplete seat.account → IsSome result }
     {
         let Gate { cluster } = self;
         let GateSeat { seat } = seat;

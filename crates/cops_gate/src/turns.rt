@@ -30,7 +30,7 @@ fn draw_once<M: Machine>(
 ) -> u64
     requires board { IsSeatAt board.now.shared.table_id board.now.shared.key.value.states.items node place.old }
     requires opened { place.old.me.0.opening ≡ Some (start board.now.shared.key.value) }
-    requires idle { place.old.me.0.stage ≡ Idle }
+    requires idle { (place.old.me.0.stage ≡ Idle) × (place.old.me.0.numbered ≡ true) }
     requires expected { expected < 2 ^ 62 }
     ensures same { (place.new.table_id ≡ place.old.table_id) × (place.new.id ≡ place.old.id) × (place.new.me.1 ≡ place.old.me.1) }
     ensures most { result ≤ 2 ^ 62 }
@@ -74,7 +74,7 @@ pub(crate) fn draw<M: Machine, R: Wait>(
 ) -> Option<u64>
     requires board { IsSeatAt board.now.shared.table_id board.now.shared.key.value.states.items node place.old }
     requires opened { place.old.me.0.opening ≡ Some (start board.now.shared.key.value) }
-    requires idle { place.old.me.0.stage ≡ Idle }
+    requires idle { (place.old.me.0.stage ≡ Idle) × (place.old.me.0.numbered ≡ true) }
     ensures same { (place.new.table_id ≡ place.old.table_id) × (place.new.id ≡ place.old.id) × (place.new.me.1 ≡ place.old.me.1) }
     ensures some { IfSome result (λ t. (t < 2 ^ 62) × (place.new.me.0 ≡ at_stage (Waits node t) place.old.me.0)) }
     ensures none { IfNone result (place.new.me.0 ≡ spent_view node place.old.me.0) }
@@ -104,7 +104,7 @@ fn draw_again<M: Machine, R: Wait>(
 ) -> Option<u64>
     requires board { IsSeatAt board.now.shared.table_id board.now.shared.key.value.states.items node place.old }
     requires opened { place.old.me.0.opening ≡ Some (start board.now.shared.key.value) }
-    requires idle { place.old.me.0.stage ≡ Idle }
+    requires idle { (place.old.me.0.stage ≡ Idle) × (place.old.me.0.numbered ≡ true) }
     requires next { next < 2 ^ 62 }
     ensures same { (place.new.table_id ≡ place.old.table_id) × (place.new.id ≡ place.old.id) × (place.new.me.1 ≡ place.old.me.1) }
     ensures some { IfSome result (λ t. (t < 2 ^ 62) × (place.new.me.0 ≡ at_stage (Waits node t) place.old.me.0)) }

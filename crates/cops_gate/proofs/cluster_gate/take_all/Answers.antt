@@ -1,7 +1,10 @@
-use Rattle.std.proofs.Common.{arith, ◌∙◌, ◌∷◌, [], ap, subst, length-append, IfSome}
+use Rattle.std.proofs.Common.{◌≡◌, arith, ◌∙◌, ◌∷◌, [], ap, subst, sym, length-append, IfSome, IsSome}
 use Rattle.std.specs.Mem.Slots.{slots_items, slots_filled, slots_len}
+use Rattle.std.specs.List.{AllByRecursion}
+use Rattle.cops_gate.specs.Rule.{serving_at, ticket_at}
 use Rattle.cops_gate.specs.Seats.{IsAtRest}
 use Rattle.cops_gate.proofs.Closing.{one_more, still_filled, still_empty}
+use Rattle.cops_gate.proofs.Ending.{all_joined}
 use Rattle.cops_gate.proofs.cluster_gate.take_all.Goals as goal
 
 pub loop-node-preserved : goal.loop-node-preserved
@@ -21,4 +24,7 @@ loop-node-preserved g c =
       (let a = c.push_reserved.ensures.capacity in let b = inv.7 in omega arith),
       one_more ws hs c.loop-node.machines.items c.push_reserved.new.self.items node machine inv.5 c.push_reserved.ensures.items inv.8
           (subst (λ x. IfSome machine (IsAtRest x hs node)) (ap slots_items inv.0) (subst (λ x. IfSome machine (IsAtRest (slots_items c.loop-node.closed.words) x node)) inv.1 at_old)),
+      (λ served. subst (AllByRecursion IsSome) (sym c.push_reserved.ensures.items)
+          (all_joined IsSome c.loop-node.machines.items (machine ∷ []) (inv.9 served)
+          (one.served (subst (λ (words : _). ticket_at (slots_items words) node ≡ serving_at (slots_items words) node) (sym inv.0) (served node c.loop-node-test.true)), tt))),
     )

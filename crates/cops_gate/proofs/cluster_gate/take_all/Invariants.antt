@@ -1,6 +1,8 @@
-use Rattle.std.proofs.Common.{◌-◌, ◌≡◌, ◌<◌, ◌≤◌, ℕ, length, get_or, false, vec_capacity}
+use Rattle.std.proofs.Common.{◌-◌, ◌≡◌, ◌<◌, ◌≤◌, ℕ, length, get_or, false, vec_capacity, IsSome}
 use Rattle.std.specs.Mem.Slots.{slots_items, slots_filled, slots_len}
 use Rattle.std.specs.Mem.Slots.Ownership.{Filled}
+use Rattle.std.specs.List.{AllByRecursion}
+use Rattle.cops_gate.specs.Rule.{AreServed}
 use Rattle.cops_gate.specs.Seats.{AreAtRest}
 use Rattle.cops_gate.proofs.cluster_gate.take_all.Given as goal
 
@@ -15,6 +17,7 @@ invariant-loop-node g l =
     × (l.node ≤ l.count)
     × (l.count ≤ vec_capacity l.machines)
     × AreAtRest (slots_items l.fn.closed.words) (slots_items l.fn.closed.slots) l.machines.items
+    × (AreServed (slots_items l.fn.closed.words) l.count → AllByRecursion IsSome l.machines.items)
 
 abbrev pub decreases-loop-node : goal.decreases-loop-node
 decreases-loop-node g l = l.count - l.node

@@ -6,7 +6,7 @@ use Rattle.cops_gate.proofs.turns.draw_once.Goals as goal
 pub compare_exchange-requires : goal.compare_exchange-requires
 compare_exchange-requires g c =
     let first = there_at c.args.board.now.shared.key.value.states.items c.args.node c.requires.board.2 in
-    (search rules, (let w = c.requires.board.1.0 in let b = c.requires.board.2 in omega arith), draws g.M.Machine.turns g.M.Machine.place (start c.args.board.now.shared.key.value) _ _ _ c.args.node first.0 _ _ first.1 c.requires.idle c.requires.expected refl)
+    (search rules, (let w = c.requires.board.1.0 in let b = c.requires.board.2 in omega arith), draws g.M.Machine.turns g.M.Machine.place (start c.args.board.now.shared.key.value) _ _ _ c.args.node first.0 _ _ first.1 c.requires.idle.0 c.requires.idle.1 c.requires.expected refl)
 
 pub returns-clause-same : goal.returns-clause-same
 returns-clause-same g c =
