@@ -158,6 +158,7 @@ pub(crate) fn own_number(home: &Home) -> u64
 }
 
 // Returns the high-water mark of the node of this number. A node of another shard has none.
+#[inline(always)]
 fn mark_of(home: &Home, counters: &Counters, node: u64) -> Version
     requires { IsHome home.now }
     ensures { result ≡ mark_in home.now counters.now.marks.items node }
@@ -174,6 +175,7 @@ fn mark_of(home: &Home, counters: &Counters, node: u64) -> Version
 }
 
 // Returns `true` if a version was committed: the mark of its node has reached it.
+#[inline(always)]
 pub(crate) fn was_committed(home: &Home, counters: &Counters, version: Version) -> bool
     requires { IsHome home.now }
     ensures { (recs : List Tracked) → AreMarks home.now counters.now.marks.items recs → result ≡ version_le version (mark version.node recs) }
@@ -182,6 +184,7 @@ pub(crate) fn was_committed(home: &Home, counters: &Counters, version: Version) 
 }
 
 // Returns the high-water mark of a version's node.
+#[inline(always)]
 pub(crate) fn mark_for(home: &Home, counters: &Counters, version: Version) -> Version
     requires { IsHome home.now }
     ensures { (recs : List Tracked) → AreMarks home.now counters.now.marks.items recs → result ≡ mark version.node recs }
@@ -190,6 +193,7 @@ pub(crate) fn mark_for(home: &Home, counters: &Counters, version: Version) -> Ve
 }
 
 // Returns the node's own high-water mark.
+#[inline(always)]
 pub(crate) fn own_mark(home: &Home, counters: &Counters) -> Version
     requires { IsHome home.now }
     ensures { (recs : List Tracked) → AreMarks home.now counters.now.marks.items recs → result ≡ mark ((node_number home.now.shape.shards home.now.id)) recs }

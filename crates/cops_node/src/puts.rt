@@ -31,6 +31,7 @@ pub(crate) struct PutParts {
 }
 
 // Returns the version that a put with these dependencies gets.
+#[inline(always)]
 fn next_version(home: &Home, counters: &Counters, deps: &Deps) -> Result<Version, Fault>
     requires home { IsHome home.now }
     requires clock_fits { counters.now.clock ≤ last_clock }

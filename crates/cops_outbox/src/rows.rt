@@ -106,6 +106,7 @@ fn link(rows: &mut Slab<Row>, line: &Line, slot: usize, entry: Entry) -> usize
 }
 
 // Appends an entry of the slot to the line, into reserved room.
+#[inline(always)]
 pub(crate) fn add(rows: &mut Slab<Row>, line: &mut Line, own: u64, slot: usize, entry: Entry)
     requires room { HasRoomFor rows.old 1 }
     requires line { IsLine rows.old.slots own (length line.old.waits.items) slot line.old }
