@@ -77,6 +77,7 @@ impl ActorTable {
     }
 
     /// Returns the place of an actor. Hashes nothing if the cached index is right.
+    #[inline(always)]
     pub(crate) fn place_of(&self, guess: usize, id: &ActorId) -> Option<usize>
         ensures index { result ≡ actor_place id.now self.now }
         ensures found { is_some result ≡ is_some (actor_at self.now id.now) }

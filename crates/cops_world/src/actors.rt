@@ -28,13 +28,30 @@ use cops_repl::{Carrier, Delivery, Progress as Carrying};
 use cops_session::{Answer, Progress, Session};
 use cops_types::{Deps, Fault, Key, Name, Near, RequestError, Value};
 use std::alloc::{AllocError, Global};
+use std::hash::{Hash, Hasher};
 use std::marker::Model;
 
 /// An actor, by its tenant and its name.
-#[derive(Clone, Copy, Debug, PartialEq, Eq, Hash)]
+#[derive(Clone, Copy, Debug, PartialEq, Eq)]
 pub struct ActorId {
     pub slot: u64,
     pub name: Name,
+}
+
+impl Hash for ActorId {
+    ghost use Rattle.std.proofs.Common.{ap};
+    ghost use Rattle.cops_types.specs.KeyHashes.{hashed_name_in};
+    ghost use Rattle.cops_world.specs.declared.actors.ActorId.{ActorId};
+    ghost use Rattle.cops_world.specs.ActorNames.{same_actor_is};
+
+    ghost hash_input = { λ id. hashed_name_in id.slot id.name };
+
+    ghost respects_eq = { λ id other same. ap (λ (a : ActorId). hashed_name_in a.slot a.name) (same_actor_is id other same) };
+
+    #[inline(always)]
+    fn hash<H: Hasher>(&self, state: &mut H) {
+        self.name.hash_in(self.slot, state);
+    }
 }
 
 /// A session or a carrier.
