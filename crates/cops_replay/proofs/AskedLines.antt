@@ -20,7 +20,7 @@ use Rattle.cops_replay.specs.Replaying.{Agrees}
 use Rattle.cops_replay.specs.Replayings.{IsLineReplayed}
 use Rattle.cops_replay.specs.Replays.{IsReplied, Lone}
 use Rattle.cops_replay.proofs.LinesBack.{reply_back}
-use Rattle.cops_replay.proofs.LinesSpelled.{reply_is, whole_is}
+use Rattle.cops_replay.proofs.LinesSpelled.{reply_is}
 use Rattle.cops_replay.proofs.WordsLack.{reply_free}
 
 -- ---- the text of a reply
@@ -36,27 +36,13 @@ reply_spelled reply h =
 
 pub reply_text : (text : List ℕ) (reply : NodeReply) → reply_told text ≡ Some reply → (text ≡ spaced (reply_words reply)) × IsTrue (is_reply reply)
 reply_text text reply e =
-    let words = parts_at space text in
-    let spells = reply_is words reply [] (whole_is (read_reply version_in words) reply e) in
-    (sym (parts_back space text) ∙ ap (join_with_byte space) (spells.0 ∙ append-nil (reply_words reply)), spells.1)
+    let spells = reply_is (parts_at space text) reply e in
+    (sym (parts_back space text) ∙ ap (join_with_byte space) spells.0, spells.1)
 
 -- what has a line has a form
 formed : (reply : NodeReply) → IsTrue (is_reply reply) → IsTrue (has_form reply)
-formed (Found f) h = refl
-formed Absent h = refl
-formed (Gone now) h = refl
-formed NotYet h = refl
-formed (Stored version) h = refl
-formed (Checked committed) h = refl
-formed (Pulled entry) h = refl
-formed Nothing h = refl
-formed Committed h = refl
-formed Already h = refl
-formed (OutOfOrder mark) h = refl
-formed Acked h = refl
-formed NotFront h = refl
-formed (Removed count) h = refl
 formed (Refused fault) h = h
+formed reply h = refl
 
 -- a text is compared with that of the reply
 pub told_by_text : (text written : List ℕ) (reply : NodeReply) (same : Bool) → same ≡ bytes_eq written text → written ≡ spaced (reply_words reply) → IsTrue (is_reply reply) → IsTrue same ↔ (reply_told text ≡ Some reply)

@@ -4,10 +4,12 @@ use Rattle.std.specs.Prelude.{Option, Some, None, nat_lt, IsTrue}
 use Rattle.std.specs.Str.{bytes_eq}
 use Rattle.std.proofs.Math.Nat.{min-eq_left}
 use Rattle.std.proofs.lemmas.Bool.Decides.{nat_tests}
+use Rattle.std.proofs.lemmas.List.{take_all}
+use Rattle.std.specs.List.{AllByRecursion}
 use Rattle.cops_types.specs.declared.configs.Config.{Config}
 use Rattle.cops_types.specs.declared.configs.Tenant.{Tenant}
 use Rattle.cops_types.specs.Counts.{counted}
-use Rattle.cops_types.specs.Head.{Front, AtStart, Within, Begun, Follows, HeadReading, Whole, BadAt, is_begun, may_join, reading_from}
+use Rattle.cops_types.specs.Head.{Front, AtStart, Within, Begun, HeadReading, Whole, BadAt, is_begun, may_join, reading_from}
 use Rattle.cops_types.specs.HeadLines.{is_distinct, is_name}
 use Rattle.cops_types.specs.Lines.{cut_line}
 use Rattle.cops_types.specs.OldHead.{last_old_clock, old_front_after, old_reading_from}
@@ -17,6 +19,7 @@ use Rattle.cops_types.proofs.HeadLemmas.{tenant_fits}
 use Rattle.cops_types.proofs.HeadLengths.{front_after-short}
 use Rattle.cops_types.proofs.WordLemmas.{both, bytes_from_test}
 use Rattle.cops_types.specs.Slots.{AreNamed, slot_of_name}
+use Rattle.cops_types.proofs.Elements.{Every-append}
 use Rattle.cops_script.proofs.ApartTenants.{found_at, name_of, short_name}
 use Rattle.cops_script.proofs.HeadRuns as today
 use Rattle.cops_replay.specs.declared.layouts.Layout.{Layout}
@@ -24,17 +27,11 @@ use Rattle.cops_replay.specs.declared.layouts.Layout.TheVariants.{Today, Early}
 use Rattle.cops_replay.specs.AuditText.{layout_line}
 use Rattle.cops_replay.specs.FileHeads.{front_by, tells_layout}
 use Rattle.cops_replay.specs.ReplayText.{layout_of, longest_record}
-use Rattle.cops_replay.proofs.OldFronts.{OldFollows, old_front_after-is, old_front_after-short}
+use Rattle.cops_replay.proofs.OldFronts.{FollowsTo, follows_today, old_front_after-is, old_front_after-short}
 
 pub by_test : {C : Type 0} (b : Bool) → (b ≡ true → C) → (b ≡ false → C) → C
 by_test {C} true holds fails = holds refl
 by_test {C} false holds fails = fails refl
-
-pub take_all : (n : ℕ) (xs : List ℕ) → length xs ≤ n → take n xs ≡ xs
-take_all zero [] h = refl
-take_all zero (x ∷ xs) h = absurd (omega arith)
-take_all (suc n) [] h = refl
-take_all (suc n) (x ∷ xs) h = ap (λ l. x ∷ l) (take_all n xs (omega arith))
 
 -- ---- both layouts
 
@@ -98,6 +95,46 @@ pub read_whole : (layout : Layout) (lines : List (List ℕ)) (number : ℕ) (con
 read_whole Today lines number config = refl
 read_whole Early lines number config = refl
 
+-- ---- a whole head
+
+-- the greatest first clock in a head
+abbrev pub last_in : Layout → ℕ
+last_in Today = last_clock
+last_in Early = last_old_clock
+
+pub last_small : (layout : Layout) → last_in layout < 2 ^ 64
+last_small Today = omega arith
+last_small Early = omega arith
+
+pub follows_by : (layout : Layout) (front : Front) (line : List ℕ) (next : Front) → front_by layout front line ≡ Some next → FollowsTo (last_in layout) front line next
+follows_by Today front line next e = follows_today front line next (front_after-is front line next e)
+follows_by Early front line next e = old_front_after-is front line next e
+
+-- what holds of each front to which a line leads holds behind a whole head; what holds of all lines holds of those after it
+module _ (layout : Layout) (Q : Front → Type 0) (P : List ℕ → Type 0) (step : (front : Front) (line : List ℕ) (next : Front) → Q front → front_by layout front line ≡ Some next → Q next) (config : Config) (rest : List (List ℕ)) where
+  begun_holds : (found : Config) (lines : List (List ℕ)) (number : ℕ) → Q (Begun found) → AllByRecursion P lines → reading_by layout lines number (Begun found) ≡ Whole config rest → Q (Begun config) × AllByRecursion P rest
+  begun_holds found lines number q all e =
+      let whole : Whole found lines ≡ Whole config rest = sym (read_whole layout lines number found) ∙ e in
+      let its : found ≡ config = cc in
+      let after : lines ≡ rest = cc in
+      (subst (λ (c : Config). Q (Begun c)) its q, subst (AllByRecursion P) after all)
+
+  no_end : (number : ℕ) (front : Front) → is_begun front ≡ false → reading_by layout [] number front ≡ Whole config rest → Q (Begun config) × AllByRecursion P rest
+  no_end number front still e = let bad : BadAt number ≡ Whole config rest = sym (bad_end layout front number still) ∙ e in absurd (let clash : ⊥ = cc in clash)
+
+  by_line : (line : List ℕ) (lines : List (List ℕ)) (number : ℕ) (front : Front) → is_begun front ≡ false → Q front → reading_by layout (line ∷ lines) number front ≡ Whole config rest →
+      ((next : Front) → Q next → reading_by layout lines (number + 1) next ≡ Whole config rest → Q (Begun config) × AllByRecursion P rest) → (found : Option Front) → front_by layout front line ≡ found → Q (Begun config) × AllByRecursion P rest
+  by_line line lines number front still q e again None is = let bad : BadAt number ≡ Whole config rest = sym (bad_first layout front number line lines still is) ∙ e in absurd (let clash : ⊥ = cc in clash)
+  by_line line lines number front still q e again (Some next) is = again next (step front line next q is) (sym (read_once layout front number line lines next still is) ∙ e)
+
+  pub head_holds : (lines : List (List ℕ)) (number : ℕ) (front : Front) → Q front → AllByRecursion P lines → reading_by layout lines number front ≡ Whole config rest → Q (Begun config) × AllByRecursion P rest
+  head_holds [] number AtStart q all e = no_end number AtStart refl e
+  head_holds [] number (Within found) q all e = no_end number (Within found) refl e
+  head_holds [] number (Begun found) q all e = begun_holds found [] number q all e
+  head_holds (line ∷ lines) number AtStart q all e = by_line line lines number AtStart refl q e (λ next h r. head_holds lines (number + 1) next h all.1 r) (front_by layout AtStart line) refl
+  head_holds (line ∷ lines) number (Within found) q all e = by_line line lines number (Within found) refl q e (λ next h r. head_holds lines (number + 1) next h all.1 r) (front_by layout (Within found) line) refl
+  head_holds (line ∷ lines) number (Begun found) q all e = begun_holds found (line ∷ lines) number q all e
+
 -- ---- one more line, and the tenants
 
 -- the second front has no tenant, one more than the first, or the same
@@ -107,21 +144,14 @@ Grows (Within old) (Within config) = (tenant : Tenant) × (config.tenants ≡ ol
 Grows (Within old) (Begun config) = config.tenants ≡ old.tenants
 Grows front next = ⊥
 
-grows : (front : Front) (line : List ℕ) (next : Front) → Follows front line next → Grows front next
-grows AtStart line next f = subst (Grows AtStart) (sym f.2) f.1.bare
-grows (Within old) line next (inl joins) = subst (Grows (Within old)) (sym joins.after) (joins.tenant, refl, (tenant_fits last_clock (omega arith) joins.tenant joins.said.within).name, joins.may)
-grows (Within old) line next (inr ends) = subst (Grows (Within old)) (sym ends.after) refl
-grows (Begun old) line next f = absurd f
-
-old_grows : (front : Front) (line : List ℕ) (next : Front) → OldFollows front line next → Grows front next
-old_grows AtStart line next f = subst (Grows AtStart) (sym f.2) f.1.bare
-old_grows (Within old) line next (inl joins) = subst (Grows (Within old)) (sym joins.after) (joins.tenant, refl, (tenant_fits last_old_clock (omega arith) joins.tenant joins.said.within).name, joins.may)
-old_grows (Within old) line next (inr ends) = subst (Grows (Within old)) (sym ends.after) refl
-old_grows (Begun old) line next f = absurd f
+grows : (last : ℕ) → last < 2 ^ 64 → (front : Front) (line : List ℕ) (next : Front) → FollowsTo last front line next → Grows front next
+grows last small AtStart line next f = subst (Grows AtStart) (sym f.2) f.1.bare
+grows last small (Within old) line next (inl joins) = subst (Grows (Within old)) (sym joins.after) (joins.tenant, refl, (tenant_fits last small joins.tenant joins.said.within).name, joins.may)
+grows last small (Within old) line next (inr ends) = subst (Grows (Within old)) (sym ends.after) refl
+grows last small (Begun old) line next f = absurd f
 
 pub grows_by : (layout : Layout) (front : Front) (line : List ℕ) (next : Front) → front_by layout front line ≡ Some next → Grows front next
-grows_by Today front line next e = grows front line next (front_after-is front line next e)
-grows_by Early front line next e = old_grows front line next (old_front_after-is front line next e)
+grows_by layout front line next e = grows (last_in layout) (last_small layout) front line next (follows_by layout front line next e)
 
 -- the front has taken so many lines, and its tenants have names
 pub record IsCounted (layout : Layout) (front : Front) (count : ℕ) : Type 0 where
@@ -141,10 +171,6 @@ counted-small layout AtStart count c = min_is (count + 1) (let n = c.counts in l
 counted-small layout (Within config) count c = min_is (count + 1) (let n = c.counts in let small = c.small in let few = before_few layout in omega arith)
 counted-small layout (Begun config) count c = min_is (count + 1) (let n = c.counts in let small = c.small in let few = before_few layout in omega arith)
 
-named_push : (tenants : List Tenant) (tenant : Tenant) → AreNamed tenants → IsTrue (is_name tenant.name) → AreNamed (tenants ++ tenant ∷ [])
-named_push [] tenant all one = (one, tt)
-named_push (first ∷ tenants) tenant all one = (all.0, named_push tenants tenant all.1 one)
-
 pub counted_next : (layout : Layout) (front : Front) (count : ℕ) (config : Config) → IsCounted layout front count → Grows front (Within config) → IsCounted layout (Within config) (counted count)
 counted_next layout AtStart count config c none = record {
   counts = counted-small layout AtStart count c ∙ (let n = c.counts in let zeroth = ap length none in omega arith);
@@ -157,7 +183,7 @@ counted_next layout (Within old) count config c (tenant, more, name, may) =
     record {
       counts = counted-small layout (Within old) count c ∙ (let n = c.counts in omega arith);
       small = omega arith;
-      named = subst AreNamed (sym more) (named_push old.tenants tenant c.named name);
+      named = subst AreNamed (sym more) (Every-append (λ (t : Tenant). IsTrue (is_name t.name)) old.tenants (tenant ∷ []) c.named (name, tt));
     }
 counted_next layout (Begun old) count config c g = absurd g
 

@@ -1,7 +1,7 @@
 -- The lines of a written audit, and those of them that are one tenant's.
 use Rattle.std.proofs.Common.{◌≡◌, ℕ, zero, suc, ◌+◌, ◌<◌, ◌≤◌, Bool, true, false, cond, List, [], ◌∷◌, ◌++◌, map, length, inl, inr, refl, sym, subst, ap, ◌∙◌, append-nil, arith}
 use Rattle.std.specs.Prelude.{IsTrue, Some, None, codes, decimal, flat_map, nat_lt, slice_get}
-use Rattle.std.specs.List.{AllByRecursion, position_or_len}
+use Rattle.std.specs.List.{AllByRecursion, position_or_len, list_any}
 use Rattle.std.specs.Str.{bytes_eq}
 use Rattle.std.proofs.lemmas.Bool.Decides.{nat_tests}
 use Rattle.std.proofs.lemmas.Grind.{flat_map-append}
@@ -9,116 +9,78 @@ use Rattle.std.proofs.lemmas.List.Elements.{filter-append}
 use Rattle.std.proofs.lemmas.List.Folds.{flat_map-map}
 use Rattle.cops_types.specs.declared.configs.Config.{Config}
 use Rattle.cops_types.specs.declared.configs.Tenant.{Tenant}
-use Rattle.cops_types.specs.Head.{Front, AtStart, Within, Begun, Follows, Leads, Whole, Says, head_of}
-use Rattle.cops_types.specs.HeadLines.{is_distinct}
+use Rattle.cops_types.specs.Head.{Whole, head_of}
 use Rattle.cops_types.specs.Key.{is_name}
 use Rattle.cops_types.specs.Lines.{lines_of}
 use Rattle.cops_types.specs.Slots.{AreNamed, slot_of_name}
 use Rattle.cops_types.specs.TenantConfig.{TenantConfig}
-use Rattle.cops_types.specs.Version.{last_clock}
 use Rattle.cops_types.specs.Words.{first_word, newline, space, spaced}
-use Rattle.cops_types.proofs.FrontLemmas.{head_of-says}
-use Rattle.cops_types.proofs.HeadLemmas.{tenant_fits}
+use Rattle.cops_types.proofs.HeadLengths.{name_of_good}
+use Rattle.cops_types.proofs.OpenSlotLemmas.{left_fails, right_fails, swapped}
 use Rattle.cops_types.proofs.WordLemmas.{Lacks, both, first_word-more, name_lacks, same_bytes, same_value, space_foreign}
+use Rattle.cops_types.proofs.Elements.{Every-append}
+use Rattle.cops_types.specs.TenantTexts.{AreApart, has_text}
+use Rattle.cops_types.specs.Version.{last_clock}
 use Rattle.cops_model.specs.SoloNode.{SoloNode}
-use Rattle.cops_script.proofs.ApartTenants.{AreApart, apart_push, none_apart, of_name, only_one}
-use Rattle.cops_script.proofs.HeadRuns.{tenants_in}
 use Rattle.cops_replay.specs.declared.Record.{Record}
 use Rattle.cops_replay.specs.AuditText.{ended, tenants_text}
 use Rattle.cops_replay.specs.OwnLines.{alone_lines}
 use Rattle.cops_replay.specs.RecordText.{call_words, is_record, node_text, record_line, reply_words}
 use Rattle.cops_replay.specs.WrittenAudits.{AreFormed, his_records}
-use Rattle.cops_replay.proofs.HeadsBack.{lines_of-lines}
-use Rattle.cops_replay.proofs.LinesBack.{line_lacks}
-use Rattle.cops_replay.proofs.AuditHeads.{by_test}
+use Rattle.cops_replay.proofs.HeadsBack.{AreFit, lines_of-lines, of_head}
+use Rattle.cops_replay.proofs.LinesBack.{lines_lack}
 
 -- ---- the tenants of a head
 
 -- each has a name, and no two have one
 pub record AreKnown (tenants : List Tenant) : Type 0 where
-  pub apart : AreApart tenants
+  pub apart : AreApart (λ tenant. tenant.name) (map Some tenants)
   pub named : AreNamed tenants
 
-named_push : (tenants : List Tenant) (tenant : Tenant) → AreNamed tenants → IsTrue (is_name tenant.name) → AreNamed (tenants ++ tenant ∷ [])
-named_push [] tenant named is = (is, tt)
-named_push (first ∷ tenants) tenant named is = (named.0, named_push tenants tenant named.1 is)
-
-none_known : AreKnown []
-none_known = record { apart = none_apart; named = tt }
-
-follows_known : (front : Front) (line : List ℕ) (next : Front) → AreKnown (tenants_in front) → Follows front line next → AreKnown (tenants_in next)
-follows_known AtStart line next known h = subst AreKnown (sym (ap tenants_in h.2 ∙ h.1.bare)) none_known
-follows_known (Within old) line next known (inl joins) =
-    subst AreKnown (sym (ap tenants_in joins.after)) (record {
-      apart = apart_push old.tenants joins.tenant known.apart (both (nat_lt (length old.tenants) 64) (is_distinct old.tenants joins.tenant) joins.may).1;
-      named = named_push old.tenants joins.tenant known.named (tenant_fits last_clock (omega arith) joins.tenant joins.said.within).name;
-    })
-follows_known (Within old) line next known (inr ends) = subst AreKnown (sym (ap tenants_in ends.after)) known
-follows_known (Begun old) line next known h = absurd h
-
-leads_known : (front : Front) (lines : List (List ℕ)) (last : Front) → AreKnown (tenants_in front) → Leads front lines last → AreKnown (tenants_in last)
-leads_known front [] last known e = subst AreKnown (sym (ap tenants_in e)) known
-leads_known front (line ∷ lines) last known (next, follows, leads) = leads_known next lines last (follows_known front line next known follows) leads
+fit_named : (tenants : List Tenant) → AreFit last_clock tenants → AreNamed tenants
+fit_named [] fit = tt
+fit_named (tenant ∷ tenants) fit = (name_of_good tenant fit.0.good, fit_named tenants fit.1)
 
 pub head_known : (lines rest : List (List ℕ)) (config : Config) → head_of lines ≡ Whole config rest → AreKnown config.tenants
-head_known lines rest config e =
-    let (head, is, whole) = subst (Says lines) e (head_of-says lines) in
-    leads_known AtStart head (Begun config) none_known is
+head_known lines rest config e = let is = of_head lines rest config e in record { apart = is.apart.names; named = fit_named config.tenants is.fit }
 
 -- ---- a tenant among them
 
-others_apart : (first : Tenant) (tenants : List Tenant) → AreApart (first ∷ tenants) → AreApart tenants
-others_apart first tenants apart name = by_test (bytes_eq first.name name)
-    (λ is.
-    let size : length (of_name name (first ∷ tenants)) ≡ suc (length (of_name name tenants)) = rw is refl in
-    let most = apart name in
-    omega arith)
-    (λ is. let same : of_name name (first ∷ tenants) ≡ of_name name tenants = rw is refl in subst (λ (ts : List Tenant). length ts ≤ 1) same (apart name))
+-- none of them has this name
+abbrev NoneHas : List ℕ → List Tenant → Type 0
+NoneHas name tenants = list_any (has_text (λ (t : Tenant). t.name) name) (map Some tenants) ≡ false
 
--- a tenant before another has another name
-before_differs : (first : Tenant) (tenants : List Tenant) (slot : ℕ) (tenant : Tenant) → AreApart (first ∷ tenants) → slice_get tenants slot ≡ Some tenant → bytes_eq first.name tenant.name ≡ false
-before_differs first tenants slot tenant apart e = by_test (bytes_eq first.name tenant.name)
-    (λ is.
-    let only = ap length (only_one tenant.name tenants slot tenant e (same_bytes tenant.name) (others_apart first tenants apart tenant.name)) in
-    let size : length (of_name tenant.name (first ∷ tenants)) ≡ suc (length (of_name tenant.name tenants)) = rw is refl in
-    let most = apart tenant.name in
-    absurd (omega (arith, only, size, most)))
-    (λ is. is)
+first_differs : (name : List ℕ) (first : Tenant) (tenants : List Tenant) → NoneHas name (first ∷ tenants) → bytes_eq first.name name ≡ false
+first_differs name first tenants none = left_fails (bytes_eq first.name name) (list_any (has_text (λ (t : Tenant). t.name) name) (map Some tenants)) none
 
--- no tenant after one has its name
-after_differ : (first : Tenant) (tenants : List Tenant) → AreApart (first ∷ tenants) → of_name first.name tenants ≡ []
-after_differ first tenants apart =
-    let all : of_name first.name (first ∷ tenants) ≡ first ∷ of_name first.name tenants = rw (same_bytes first.name) refl in
-    same_rest (sym all ∙ only_one first.name (first ∷ tenants) 0 first refl (same_bytes first.name) (apart first.name))
-  where
-    same_rest : first ∷ of_name first.name tenants ≡ first ∷ [] → of_name first.name tenants ≡ []
-    same_rest h = cc
+others_differ : (name : List ℕ) (first : Tenant) (tenants : List Tenant) → NoneHas name (first ∷ tenants) → NoneHas name tenants
+others_differ name first tenants none = right_fails (bytes_eq first.name name) (list_any (has_text (λ (t : Tenant). t.name) name) (map Some tenants)) none
 
-place_of_name : (tenants : List Tenant) (slot : ℕ) (tenant : Tenant) → AreApart tenants → slice_get tenants slot ≡ Some tenant →
+differs_at : (name : List ℕ) (tenants : List Tenant) (slot : ℕ) (tenant : Tenant) → NoneHas name tenants → slice_get tenants slot ≡ Some tenant → bytes_eq name tenant.name ≡ false
+differs_at name [] slot tenant none e = cc
+differs_at name (first ∷ tenants) zero tenant none e = subst (λ (t : Tenant). bytes_eq name t.name ≡ false) (same_value first tenant e) (swapped name first.name ∙ first_differs name first tenants none)
+differs_at name (first ∷ tenants) (suc slot) tenant none e = differs_at name tenants slot tenant (others_differ name first tenants none) e
+
+place_of_name : (tenants : List Tenant) (slot : ℕ) (tenant : Tenant) → AreApart (λ t. t.name) (map Some tenants) → slice_get tenants slot ≡ Some tenant →
     (position_or_len (λ (t : Tenant). bytes_eq t.name tenant.name) tenants ≡ slot) × (slot < length tenants)
 place_of_name [] slot tenant apart e = cc
 place_of_name (first ∷ tenants) zero tenant apart e =
     let same : bytes_eq first.name tenant.name ≡ true = ap (λ (t : Tenant). bytes_eq t.name tenant.name) (same_value first tenant e) ∙ same_bytes tenant.name in
     (rw same refl, omega arith)
 place_of_name (first ∷ tenants) (suc slot) tenant apart e =
-    let differs = before_differs first tenants slot tenant apart e in
-    let later = place_of_name tenants slot tenant (others_apart first tenants apart) e in
+    let differs = differs_at first.name tenants slot tenant apart.0 e in
+    let later = place_of_name tenants slot tenant apart.1 e in
     let below = later.1 in
     let found = later.0 in
     (rw differs (omega (arith, found)), omega arith)
 
 -- a tenant is found by its name
-pub named_at : (tenants : List Tenant) (slot : ℕ) (tenant : Tenant) → AreApart tenants → slice_get tenants slot ≡ Some tenant → slot_of_name tenants tenant.name ≡ Some slot
+pub named_at : (tenants : List Tenant) (slot : ℕ) (tenant : Tenant) → AreApart (λ t. t.name) (map Some tenants) → slice_get tenants slot ≡ Some tenant → slot_of_name tenants tenant.name ≡ Some slot
 named_at tenants slot tenant apart e =
     let place = place_of_name tenants slot tenant apart e in
     let below = place.1 in
     let test : nat_lt slot (length tenants) ≡ true = grind (arith, nat_tests) in
     ap (λ n. cond (nat_lt n (length tenants)) (Some n) None) place.0 ∙ ap (λ t. cond t (Some slot) None) test
-
-pub name_at : (tenants : List Tenant) (slot : ℕ) (tenant : Tenant) → AreNamed tenants → slice_get tenants slot ≡ Some tenant → IsTrue (is_name tenant.name)
-name_at [] slot tenant named e = cc
-name_at (first ∷ tenants) zero tenant named e = subst (λ (t : Tenant). IsTrue (is_name t.name)) (same_value first tenant e) named.0
-name_at (first ∷ tenants) (suc slot) tenant named e = name_at tenants slot tenant named.1 e
 
 -- ---- the lines of one tenant's records
 
@@ -146,14 +108,6 @@ none_his name other (told ∷ records) named differs =
     let is : bytes_eq (first_word (record_line other told)) name ≡ false = ap (λ word. bytes_eq word name) (begins_with other told named) ∙ differs in
     rw is (none_his name other records named differs)
 
-lines_lack : (name : List ℕ) (records : List Record) → IsTrue (is_name name) → Formed records → AllByRecursion (Lacks newline) (his_lines name records)
-lines_lack name [] named all = tt
-lines_lack name (told ∷ records) named all = (line_lacks name told named all.0, lines_lack name records named all.1)
-
-all_both : {X : Type 0} (P : X → Type 0) (xs ys : List X) → AllByRecursion P xs → AllByRecursion P ys → AllByRecursion P (xs ++ ys)
-all_both P [] ys all also = also
-all_both P (x ∷ xs) ys all also = (all.0, all_both P xs ys all.1 also)
-
 -- ---- the lines of all tenants' records
 
 module _ (config : Config) (nodes : TenantConfig → ℕ → List SoloNode) where
@@ -178,34 +132,31 @@ module _ (config : Config) (nodes : TenantConfig → ℕ → List SoloNode) wher
   all_lack slot [] named formed = tt
   all_lack slot (tenant ∷ tenants) named formed =
       let here : Formed (his_records config nodes slot tenant) = subst (λ n. Formed (his_records config nodes n tenant)) (omega arith) (formed 0 tenant refl) in
-      all_both (Lacks newline) (his_lines tenant.name (his_records config nodes slot tenant)) (record_lines (slot + 1) tenants) (lines_lack tenant.name (his_records config nodes slot tenant) named.0 here)
+      Every-append (Lacks newline) (his_lines tenant.name (his_records config nodes slot tenant)) (record_lines (slot + 1) tenants) (lines_lack tenant.name (his_records config nodes slot tenant) named.0 here)
       (all_lack (slot + 1) tenants named.1 (later_formed slot tenant tenants formed))
 
   -- none is of a name that no tenant has
-  none_named : (name : List ℕ) (slot : ℕ) (tenants : List Tenant) → AreNamed tenants → of_name name tenants ≡ [] → alone_lines name (record_lines slot tenants) ≡ []
+  none_named : (name : List ℕ) (slot : ℕ) (tenants : List Tenant) → AreNamed tenants → NoneHas name tenants → alone_lines name (record_lines slot tenants) ≡ []
   none_named name slot [] named none = refl
-  none_named name slot (first ∷ tenants) named none = by_test (bytes_eq first.name name)
-      (λ is. let some : of_name name (first ∷ tenants) ≡ first ∷ of_name name tenants = rw is refl in absurd (let clash : first ∷ of_name name tenants ≡ [] = sym some ∙ none in cc))
-      (λ is.
-      let others : of_name name (first ∷ tenants) ≡ of_name name tenants = rw is refl in
+  none_named name slot (first ∷ tenants) named none =
       filter-append (λ line. bytes_eq (first_word line) name) (his_lines first.name (his_records config nodes slot first)) (record_lines (slot + 1) tenants)
-      ∙ (λ i. none_his name first.name (his_records config nodes slot first) named.0 is i ++ none_named name (slot + 1) tenants named.1 (sym others ∙ none) i))
+      ∙ (λ i. none_his name first.name (his_records config nodes slot first) named.0 (first_differs name first tenants none) i ++ none_named name (slot + 1) tenants named.1 (others_differ name first tenants none) i)
 
-  only_his : (slot : ℕ) (tenants : List Tenant) (k : ℕ) (tenant : Tenant) → AreNamed tenants → AreApart tenants → slice_get tenants k ≡ Some tenant →
+  only_his : (slot : ℕ) (tenants : List Tenant) (k : ℕ) (tenant : Tenant) → AreNamed tenants → AreApart (λ t. t.name) (map Some tenants) → slice_get tenants k ≡ Some tenant →
       alone_lines tenant.name (record_lines slot tenants) ≡ his_lines tenant.name (his_records config nodes (slot + k) tenant)
   only_his slot [] k tenant named apart e = cc
   only_his slot (first ∷ tenants) zero tenant named apart e =
       let here : slot ≡ slot + 0 = omega arith in
       subst (λ (t : Tenant). alone_lines t.name (record_lines slot (first ∷ tenants)) ≡ his_lines t.name (his_records config nodes (slot + 0) t)) (same_value first tenant e)
       (filter-append (λ line. bytes_eq (first_word line) first.name) (his_lines first.name (his_records config nodes slot first)) (record_lines (slot + 1) tenants)
-      ∙ (λ i. all_his first.name (his_records config nodes slot first) named.0 i ++ none_named first.name (slot + 1) tenants named.1 (after_differ first tenants apart) i)
+      ∙ (λ i. all_his first.name (his_records config nodes slot first) named.0 i ++ none_named first.name (slot + 1) tenants named.1 apart.0 i)
       ∙ append-nil (his_lines first.name (his_records config nodes slot first))
       ∙ ap (λ n. his_lines first.name (his_records config nodes n first)) here)
   only_his slot (first ∷ tenants) (suc k) tenant named apart e =
       let there : slot + 1 + k ≡ slot + suc k = omega arith in
       filter-append (λ line. bytes_eq (first_word line) tenant.name) (his_lines first.name (his_records config nodes slot first)) (record_lines (slot + 1) tenants)
-      ∙ (λ i. none_his tenant.name first.name (his_records config nodes slot first) named.0 (before_differs first tenants k tenant apart e) i
-      ++ only_his (slot + 1) tenants k tenant named.1 (others_apart first tenants apart) e i)
+      ∙ (λ i. none_his tenant.name first.name (his_records config nodes slot first) named.0 (differs_at first.name tenants k tenant apart.0 e) i
+      ++ only_his (slot + 1) tenants k tenant named.1 apart.1 e i)
       ∙ ap (λ n. his_lines tenant.name (his_records config nodes n tenant)) there
 
   -- those of one tenant are those of its records

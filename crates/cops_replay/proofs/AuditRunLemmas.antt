@@ -3,6 +3,7 @@ use Rattle.std.proofs.Common.{◌≡◌, ℕ, List, refl, sym, subst, ap, ◌∙
 use Rattle.std.specs.Prelude.{Option, Some, None, IfErr, IfSome, OnErr, OnOk, Result, Ok, Err, IsTrue, is_some, slice_get, slice_index_or}
 use Rattle.std.specs.List.{AllByRecursion}
 use Rattle.std.specs.Io.KnownBytes.{Appends}
+use Rattle.std.proofs.lemmas.Result.{IfErr-weaker}
 use Rattle.cops_types.specs.declared.configs.Tenant.{Tenant}
 use Rattle.cops_script.specs.declared.line_runs.fault.RunFault.{RunFault}
 use Rattle.cops_script.specs.declared.line_runs.fault.RunFault.TheVariants.{Refused, OutOfMemory, ReadFault, WriteFault}
@@ -90,31 +91,14 @@ module _ (world : KeptWorld) (bytes : List ℕ) (left : IsLeftBy open_setup HasO
       subst AreFormedFor (sym left.head) (of_left (λ config tenant nodes. AllByRecursion (λ (told : Record). IsTrue (is_record told)) (records_of config nodes))
       (λ place tenant e. formed place tenant e))
 
+  -- so a replay of the text finds them the same
+  pub says_same_left : ((config : TenantConfig) (slot : ℕ) → HasShape config (shape_of setup.head) → ReplaysSame config (nodes_of config slot world.nodes)) → AreFormed (open_config world) (open_nodes world) →
+      (text : List ℕ) → audit_out bytes ≡ Written text → SaysSameFor (head_of (lines_of bytes)) text
+  says_same_left same formed text is = script_says_same bytes text is (formed_for formed) (replays_same_for same)
+
 -- the same, if the bytes of the reader may be known
 pub tenants_read : (world : KeptWorld) (old_remaining new_remaining : Option (List ℕ)) → IsLeftByRead open_setup HasOpenCluster old_remaining new_remaining world → HasItsTenants world
 tenants_read world old_remaining new_remaining read = world_tenants world read.bytes read.left
-
-pub all_audited : (world : KeptWorld) (known : Option (List ℕ)) (old_contents new_contents : Option (List ℕ)) → IfSome known (λ bytes. IsLeftBy open_setup HasOpenCluster bytes world) →
-    Appends old_contents new_contents (audit_text (open_config world) (open_nodes world)) → IfSome known (λ bytes. WritesAudit bytes old_contents new_contents)
-all_audited world None old_contents new_contents left written = tt
-all_audited world (Some bytes) old_contents new_contents left written = writes_audit world bytes left old_contents new_contents written
-
-pub front_audited : (world : KeptWorld) (known : Option (List ℕ)) (old_contents new_contents : Option (List ℕ)) → IfSome known (λ bytes. IsLeftBy open_setup HasOpenCluster bytes world) →
-    AppendsFront old_contents new_contents (audit_text (open_config world) (open_nodes world)) → IfSome known (λ bytes. WritesAuditFront bytes old_contents new_contents)
-front_audited world None old_contents new_contents left written = tt
-front_audited world (Some bytes) old_contents new_contents left written = writes_front world bytes left old_contents new_contents written
-
-pub all_replay_same : (world : KeptWorld) (known : Option (List ℕ)) → IfSome known (λ bytes. IsLeftBy open_setup HasOpenCluster bytes world) →
-    ((config : TenantConfig) (slot : ℕ) → HasShape config (shape_of world.setup.head) → ReplaysSame config (nodes_of config slot world.nodes)) → IfSome known (λ bytes. ReplaysSameFor (head_of (lines_of bytes)))
-all_replay_same world None left same = tt
-all_replay_same world (Some bytes) left same = replays_same_for world bytes left same
-
-pub all_say_same : (world : KeptWorld) (known : Option (List ℕ)) → IfSome known (λ bytes. IsLeftBy open_setup HasOpenCluster bytes world) →
-    ((config : TenantConfig) (slot : ℕ) → HasShape config (shape_of world.setup.head) → ReplaysSame config (nodes_of config slot world.nodes)) →
-    AreFormed (open_config world) (open_nodes world) →
-    IfSome known (λ bytes. (text : List ℕ) → audit_out bytes ≡ Written text → SaysSameFor (head_of (lines_of bytes)) text)
-all_say_same world None left same formed = tt
-all_say_same world (Some bytes) left same formed = λ text is. script_says_same bytes text is (formed_for world bytes left formed) (replays_same_for world bytes left same)
 
 pub none_audited : (known contents : Option (List ℕ)) → IfSome known (λ bytes. WritesAuditFront bytes contents contents)
 none_audited None contents = tt
@@ -132,13 +116,10 @@ on_err_any P (Err x) h = h
 
 not_refused : (P : BadConfig → Type 0) (why : RunFault BadConfig) → IsOfWriting why → IfRunRefused why P
 not_refused P (Refused bad) h = absurd h
-not_refused P OutOfMemory h = tt
-not_refused P ReadFault h = tt
-not_refused P WriteFault h = tt
+not_refused P why h = tt
 
 pub never_refused : (P : BadConfig → Type 0) (r : Result (Unit {0}) (RunFault BadConfig)) → IfErr r IsOfWriting → IfErr r (λ why. IfRunRefused why P)
-never_refused P (Ok x) h = tt
-never_refused P (Err why) h = not_refused P why h
+never_refused P r h = IfErr-weaker r _ _ (not_refused P) h
 
 pub never_read : (r : Result (Unit {0}) (RunFault BadConfig)) → IfErr r IsOfWriting → r ≡ Err ReadFault → ⊥
 never_read (Ok x) h e = let clash : ⊥ = cc in clash

@@ -5,10 +5,11 @@ use Rattle.std.specs.List.{AllByRecursion, join_with_byte}
 use Rattle.std.proofs.lemmas.Grind.{flat_map-append}
 use Rattle.std.proofs.lemmas.List.Concat.{flat_map-cons}
 use Rattle.std.proofs.lemmas.Option.{slice_get-map, slice_get-get_or, slice_get_within}
-use Rattle.std.proofs.lemmas.List.{map-append}
+use Rattle.std.proofs.lemmas.List.{map-append, length-take}
 use Rattle.cops_types.specs.declared.configs.Config.{Config}
 use Rattle.cops_types.specs.declared.configs.Tenant.{Tenant}
 use Rattle.cops_types.specs.TenantConfig.{TenantConfig, tenant_config}
+use Rattle.cops_types.proofs.Elements.{Every-at, slice_get-Among}
 use Rattle.cops_model.specs.declared.calls.AuditEntry.{AuditEntry}
 use Rattle.cops_model.specs.declared.calls.NodeId.{NodeId}
 use Rattle.cops_node.specs.Clusters.{HasTenant, IsCluster, id_of, shape_of}
@@ -52,17 +53,6 @@ tenants_text-append config nodes slot (tenant ∷ one) other =
     ap (λ l. his ++ l) (tenants_text-append config nodes (slot + 1) one other ∙ ap (λ n. tenants_text config nodes (slot + 1) one ++ tenants_text config nodes n other) (omega arith))
     ∙ sym (append_assoc his (tenants_text config nodes (slot + 1) one) (tenants_text config nodes (slot + suc (length one)) other))
 
-length_taken : {A : Type 0} (xs : List A) (i : ℕ) → i < length xs → length (take i xs) ≡ i
-length_taken [] i h = absurd (omega arith)
-length_taken (x ∷ xs) zero h = refl
-length_taken (x ∷ xs) (suc i) h = ap suc (length_taken xs i (omega arith))
-
-pub take_whole : {A : Type 0} (xs : List A) (n : ℕ) → length xs ≤ n → take n xs ≡ xs
-take_whole [] zero h = refl
-take_whole [] (suc n) h = refl
-take_whole (x ∷ xs) zero h = absurd (omega arith)
-take_whole (x ∷ xs) (suc n) h = ap (λ l. x ∷ l) (take_whole xs n (omega arith))
-
 -- ---- texts of lists, cut at an element
 
 -- the lines of a node's audit
@@ -84,9 +74,7 @@ node_text_one_more name id trail i entry e =
 
 -- what holds of each holds of one
 pub each_at : {A : Type 0} (P : A → Type 0) (xs : List A) (i : ℕ) (x : A) → AllByRecursion P xs → slice_get xs i ≡ Some x → P x
-each_at P [] i x h e = cc
-each_at P (y ∷ xs) zero x h e = let same : y ≡ x = cc in subst P same h.0
-each_at P (y ∷ xs) (suc i) x h e = each_at P xs i x h.1 e
+each_at P xs i x h e = Every-at P x xs h (slice_get-Among xs i x e)
 
 -- a node has its number
 pub numbered : (config : Config) (nodes : List Shared) (i : ℕ) (node : Shared) → IsCluster (shape_of config) nodes → i < length nodes → node ≡ get_or nodes i node → node.home.id ≡ id_of config.shards i
@@ -104,7 +92,7 @@ pub nodes_text_cut : (name : List ℕ) (shards : ℕ) (nodes : List SoloNode) (i
     records_text name (records_from shards 0 nodes) ≡ records_text name (records_from shards 0 (take i nodes)) ++ (records_text name (map (record_of (id_of shards i)) node.trail) ++ records_text name (records_from shards (i + 1) (drop (suc i) nodes)))
 nodes_text_cut name shards nodes i node e =
     let within = slice_get_within nodes i node e in
-    let here : 0 + length (take i nodes) ≡ i = omega (arith, length_taken nodes i within) in
+    let here : 0 + length (take i nodes) ≡ i = omega (arith, within, length-take i nodes) in
     let his = map (record_of (id_of shards i)) node.trail in
     let later = records_from shards (i + 1) (drop (suc i) nodes) in
     ap (λ ns. records_text name (records_from shards 0 ns)) (cut_at nodes i node e)
@@ -116,7 +104,7 @@ pub nodes_text_one_more : (name : List ℕ) (shards : ℕ) (nodes : List SoloNod
     records_text name (records_from shards 0 (take (i + 1) nodes)) ≡ records_text name (records_from shards 0 (take i nodes)) ++ records_text name (map (record_of (id_of shards i)) node.trail)
 nodes_text_one_more name shards nodes i node e =
     let within = slice_get_within nodes i node e in
-    let here : 0 + length (take i nodes) ≡ i = omega (arith, length_taken nodes i within) in
+    let here : 0 + length (take i nodes) ≡ i = omega (arith, within, length-take i nodes) in
     let his = map (record_of (id_of shards i)) node.trail in
     ap (λ ns. records_text name (records_from shards 0 ns)) (take_one_more nodes i node e)
     ∙ ap (records_text name) (records_from-append shards 0 (take i nodes) (node ∷ []) ∙ ap (λ n. records_from shards 0 (take i nodes) ++ records_from shards n (node ∷ [])) here)
@@ -128,7 +116,7 @@ pub nodes_records_one_more : (shards : ℕ) (nodes : List SoloNode) (i : ℕ) (n
     records_from shards 0 (take (i + 1) nodes) ≡ records_from shards 0 (take i nodes) ++ map (record_of (id_of shards i)) node.trail
 nodes_records_one_more shards nodes i node e =
     let within = slice_get_within nodes i node e in
-    let here : 0 + length (take i nodes) ≡ i = omega (arith, length_taken nodes i within) in
+    let here : 0 + length (take i nodes) ≡ i = omega (arith, within, length-take i nodes) in
     let his = map (record_of (id_of shards i)) node.trail in
     ap (records_from shards 0) (take_one_more nodes i node e)
     ∙ records_from-append shards 0 (take i nodes) (node ∷ [])
@@ -150,7 +138,7 @@ pub tenants_text_cut : (config : Config) (nodes : TenantConfig → ℕ → List 
     ++ (records_text tenant.name (records_of (tenant_config config tenant) (nodes (tenant_config config tenant) i)) ++ tenants_text config nodes (i + 1) (drop (suc i) tenants))
 tenants_text_cut config nodes tenants i tenant e =
     let within = slice_get_within tenants i tenant e in
-    let here : 0 + length (take i tenants) ≡ i = omega (arith, length_taken tenants i within) in
+    let here : 0 + length (take i tenants) ≡ i = omega (arith, within, length-take i tenants) in
     ap (tenants_text config nodes 0) (cut_at tenants i tenant e)
     ∙ tenants_text-append config nodes 0 (take i tenants) (tenant ∷ drop (suc i) tenants)
     ∙ ap (λ n. tenants_text config nodes 0 (take i tenants) ++ tenants_text config nodes n (tenant ∷ drop (suc i) tenants)) here
@@ -159,7 +147,7 @@ pub tenants_text_one_more : (config : Config) (nodes : TenantConfig → ℕ → 
     tenants_text config nodes 0 (take (i + 1) tenants) ≡ tenants_text config nodes 0 (take i tenants) ++ records_text tenant.name (records_of (tenant_config config tenant) (nodes (tenant_config config tenant) i))
 tenants_text_one_more config nodes tenants i tenant e =
     let within = slice_get_within tenants i tenant e in
-    let here : 0 + length (take i tenants) ≡ i = omega (arith, length_taken tenants i within) in
+    let here : 0 + length (take i tenants) ≡ i = omega (arith, within, length-take i tenants) in
     ap (tenants_text config nodes 0) (take_one_more tenants i tenant e)
     ∙ tenants_text-append config nodes 0 (take i tenants) (tenant ∷ [])
     ∙ ap (λ n. tenants_text config nodes 0 (take i tenants) ++ tenants_text config nodes n (tenant ∷ [])) here

@@ -24,6 +24,7 @@ use Rattle.cops_replay.specs.Replaying.{fresh_nodes, nodes_after}
 use Rattle.cops_replay.specs.ReplayText.{FindsBy, IsEarlyLine, IsRefusedBy, IsReplayBy, has_great_clock, head_by, is_great_in, is_too_great_in, longest_record, starts_great_in, told_of}
 use Rattle.cops_replay.proofs.EarlyReads.{early_told}
 use Rattle.cops_replay.proofs.EarlySteps.{by_its_rules, by_rules_of_today}
+use Rattle.cops_replay.proofs.WholeMigrations.{same_whole}
 
 -- ---- lines
 
@@ -89,9 +90,6 @@ starts_early Early (t ∷ tenants) (suc slot) tenant all at =
 fits_early : (layout : Layout) (tenant : Tenant) (lines : List (List ℕ)) → starts_great_in layout tenant ≡ false → AllByRecursion IsEarlyLine lines → is_too_great_in layout tenant lines ≡ false
 fits_early Today tenant lines starts all = none_great_today lines
 fits_early Early tenant lines starts all = ap (λ b. b || list_any (is_great_in Early) lines) starts ∙ none_great_early lines all
-
-same_whole : (one other : Config) (lines rest : List (List ℕ)) → Whole one lines ≡ Whole other rest → (one ≡ other) × (lines ≡ rest)
-same_whole one other lines rest e = (let same : one ≡ other = cc in same, let same : lines ≡ rest = cc in same)
 
 -- of two files, each in its layout
 module _ (one other : Layout) (name : List ℕ) (lines moved : List (List ℕ)) (config : Config) (records : List (List ℕ)) (old : head_by one lines ≡ Whole config records) (new : head_by other moved ≡ Whole config records)

@@ -14,6 +14,7 @@ use Rattle.cops_types.specs.Pairs.{greatest_clock}
 use Rattle.cops_types.specs.Records.{Tracked, clock, ever, is_outdated, mark}
 use Rattle.cops_types.specs.TenantConfig.{TenantConfig, tenant_config}
 use Rattle.cops_types.specs.Version.{Timestamp, last_clock, next_version, version_eq}
+use Rattle.cops_types.proofs.Elements.{Every-append}
 use Rattle.cops_model.specs.declared.calls.NodeCall.{NodeCall}
 use Rattle.cops_model.specs.declared.calls.NodeCall.TheVariants.{Get, Put, DepCheck, Pull, Commit, Ack, Collect}
 use Rattle.cops_model.specs.declared.calls.NodeReply.{NodeReply}
@@ -68,15 +69,10 @@ deps_early : (pairs : List Pair) → AllByRecursion EarlyPair pairs → EarlyClo
 deps_early pairs all = deps_from 0 pairs (omega arith) all
 
 effect_alike : (place : Place) (call : NodeCall) (solo : SoloNode) → EarlyCall call → EarlyClock place.first_clock → EarlyNode solo → effect_under layout_1 place call solo ≡ effect place call solo
-effect_alike place (Get key wanted) solo c first all = refl
 effect_alike place (Put key value deps near) solo c first all =
     ap (put_with_version place solo key value deps near)
     (next_alike (clock place.first_clock solo.recs) (greatest_clock deps) (own_number place) (clock_early place.first_clock solo.recs first all) (deps_early deps c))
-effect_alike place (DepCheck key version) solo c first all = refl
-effect_alike place (Pull dc) solo c first all = refl
-effect_alike place (Commit entry) solo c first all = refl
-effect_alike place (Ack dc version) solo c first all = refl
-effect_alike place Collect solo c first all = refl
+effect_alike place call solo c first all = refl
 
 abbrev raised : ℕ → SoloNode → SoloNode
 raised moment solo = record solo { moment = max solo.moment moment }
@@ -88,13 +84,8 @@ step_alike place moment call solo c first all =
 -- ---- layout 2 is today's
 
 effect_today : (place : Place) (call : NodeCall) (solo : SoloNode) → effect_under layout_2 place call solo ≡ effect place call solo
-effect_today place (Get key wanted) solo = refl
 effect_today place (Put key value deps near) solo = refl
-effect_today place (DepCheck key version) solo = refl
-effect_today place (Pull dc) solo = refl
-effect_today place (Commit entry) solo = refl
-effect_today place (Ack dc version) solo = refl
-effect_today place Collect solo = refl
+effect_today place call solo = refl
 
 pub step_today : (place : Place) (moment : ℕ) (call : NodeCall) (solo : SoloNode) → node_step_under layout_2 place moment call solo ≡ node_step place moment call solo
 step_today place moment call solo =
@@ -102,14 +93,10 @@ step_today place moment call solo =
 
 -- ---- clocks that a node stores
 
-one_more : {A : Type 0} (P : A → Type 0) (xs : List A) (x : A) → AllByRecursion P xs → P x → AllByRecursion P (xs ++ x ∷ [])
-one_more P [] x all p = (p, tt)
-one_more P (y ∷ xs) x all p = (all.0, one_more P xs x all.1 p)
-
 stores_early : (fault : Option Fault) (reply : NodeReply) (entry : Entry) (solo : SoloNode) → EarlyNode solo → (EarlyReply reply → EarlyClock entry.version.clock) → EarlyReply (store_unless fault reply entry solo).reply →
     EarlyNode (store_unless fault reply entry solo).after
 stores_early (Some fault) reply entry solo all h r = all
-stores_early None reply entry solo all h r = one_more EarlyTracked solo.recs _ all (h r)
+stores_early None reply entry solo all h r = Every-append EarlyTracked solo.recs (_ ∷ []) all (h r, tt)
 
 put_early : (place : Place) (solo : SoloNode) (key value : List ℕ) (deps near : List Pair) (version : Option Timestamp) → EarlyNode solo → EarlyReply (put_with_version place solo key value deps near version).reply →
     EarlyNode (put_with_version place solo key value deps near version).after
@@ -138,13 +125,11 @@ collect_early trans_time now among [] all = tt
 collect_early trans_time now among (t ∷ recs) all = (all.0, collect_early trans_time now among recs all.1)
 
 effect_early : (place : Place) (call : NodeCall) (solo : SoloNode) → EarlyCall call → EarlyNode solo → EarlyReply (effect place call solo).reply → EarlyNode (effect place call solo).after
-effect_early place (Get key wanted) solo c all r = all
 effect_early place (Put key value deps near) solo c all r = put_early place solo key value deps near (version_of_put place solo deps) all r
-effect_early place (DepCheck key version) solo c all r = all
-effect_early place (Pull dc) solo c all r = all
 effect_early place (Commit entry) solo c all r = commit_early place solo entry (was_committed entry.version solo) (version_eq entry.prev (mark entry.version.node solo.recs)) all c r
 effect_early place (Ack dc version) solo c all r = ack_early dc version solo (front (queue place dc solo)) all
 effect_early place Collect solo c all r = collect_early place.trans_time solo.moment solo.recs solo.recs all
+effect_early place call solo c all r = all
 
 step_early : (place : Place) (moment : ℕ) (call : NodeCall) (solo : SoloNode) → EarlyCall call → EarlyNode solo → EarlyReply (node_step place moment call solo).reply → EarlyNode (node_step place moment call solo).after
 step_early place moment call solo c all = by_room (nat_lt (length solo.trail) place.quota.audit)

@@ -100,9 +100,7 @@ module _ (name : List ℕ) (old_contents new_contents new_remaining : Option (Li
   no_part None (fault.Refused refusal) p = tt
   no_part (Some bytes) (fault.Refused refusal) p =
       subst (λ n. RefusesPartOf n bytes refusal) named (refused begins.body bytes refusal (runs.refused_in part_rules begins.body old_contents new_contents new_remaining begins refl begun bytes refusal p))
-  no_part known fault.OutOfMemory p = tt
-  no_part known fault.ReadFault p = tt
-  no_part known fault.WriteFault p = tt
+  no_part known why p = tt
 
 pub nothing_written : (old_contents new_contents new_remaining : Option (List ℕ)) (begins : AuditMachine PartOf ⊤) (known : Option (List ℕ)) (why : RunFault PartRefusal) →
     StopsEarly (audit_rules part_rules) longest_record known new_remaining begins old_contents new_contents why → IfRunRefused why (λ refusal. Keeps old_contents new_contents)

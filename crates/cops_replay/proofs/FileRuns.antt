@@ -353,6 +353,4 @@ module _ {B R F : Type 0} (rules : AuditRules B R F) (IsQuiet : R → Type 0)
       ] in
       let silent = (Run-quiet (audit_rules rules) (λ (s : AuditMachine B R). IsQuietFile s.file) (λ s line answer after answered still. file_quiet s.body s.file line answer after.file answered.1 still) begins p.lines p.text p.machine p.run quiet).1 in
       AppendsFront-nil old_contents new_contents (subst (AppendsFront old_contents new_contents) (λ i. silent i ++ p.refused.0 i) p.written)
-  nothing_written old_contents new_contents new_remaining begins known fault.OutOfMemory p = tt
-  nothing_written old_contents new_contents new_remaining begins known fault.ReadFault p = tt
-  nothing_written old_contents new_contents new_remaining begins known fault.WriteFault p = tt
+  nothing_written old_contents new_contents new_remaining begins known why p = tt

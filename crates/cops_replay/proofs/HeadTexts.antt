@@ -21,8 +21,7 @@ use Rattle.cops_replay.specs.MigratedText.{migration_of}
 use Rattle.cops_replay.specs.MigrationLaws.{IsAuditInBoth}
 use Rattle.cops_replay.specs.ReplayText.{IsRefusedBy, IsReplayBy, IsReplayOf, RefusesReplayOf, head_by, layout_of}
 use Rattle.cops_replay.proofs.EarlyRecords.{refused_alike, replayed_alike}
-use Rattle.cops_replay.proofs.HeadsInBoth.{alike}
-use Rattle.cops_replay.proofs.WholeMigrations.{whole}
+use Rattle.cops_replay.proofs.WholeMigrations.{alike, whole}
 
 -- ---- the lines of the text of a head
 

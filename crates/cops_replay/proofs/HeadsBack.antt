@@ -1,25 +1,34 @@
 -- A head that was read is read again from the lines that are written of it, with each token in lower case with hyphens.
-use Rattle.std.proofs.Common.{◌≡◌, ℕ, ◌+◌, ◌*◌, ◌<◌, ◌≤◌, ◌^◌, Bool, true, false, cond, ◌&&◌, inl, inr, All, List, [], ◌∷◌, ◌++◌, length, map, take, drop, slice_index, if◌then◌else◌, refl, sym, subst, ap, ◌∙◌, append_assoc, append-nil, arith}
-use Rattle.std.specs.Prelude.{IsTrue, codes, decimal, ◌==◌, Option, Some, None}
-use Rattle.std.specs.List.{AllByRecursion, AllPass, flat_map, list_all}
+use Rattle.std.proofs.Common.{◌≡◌, ℕ, ◌+◌, ◌*◌, ◌<◌, ◌≤◌, ◌^◌, Bool, true, false, cond, ◌&&◌, inl, inr, All, List, [], ◌∷◌, ◌++◌, length, map, take, drop, slice_index, if◌then◌else◌, refl, sym, subst, ap, ◌∙◌, append_assoc, append-nil, arith, not, length-append}
+use Rattle.std.specs.Prelude.{IsTrue, codes, decimal, ◌==◌, Option, Some, None, nat_lt}
+use Rattle.std.specs.List.{AllByRecursion, AllPass, flat_map, list_all, list_any}
 use Rattle.std.proofs.lemmas.Bool.Decides.{nat_tests, Decides-eqb}
 use Rattle.std.proofs.lemmas.List.{map-append}
 use Rattle.std.proofs.lemmas.List.Elements.{recursion_from_All}
 use Rattle.std.proofs.lemmas.List.Sums.{AllPass-from_list_all}
+use Rattle.std.specs.Str.{bytes_eq}
 use Rattle.uuid.specs.Text.{by_index, byte_of_digits, close_brace, digit_place, digits_of, has_hyphens, has_urn_prefix, hex_digit, hyphen, hyphenated_text, is_hex_digit, is_hyphen_place, lower, nibble, open_brace, parsed, parsed_braced, parsed_hyphenated, parsed_simple, parsed_urn, value_of}
 use Rattle.uuid.proofs.RoundTrips.{parses_hyphenated}
 use Rattle.uuid.proofs.TextLemmas.{by_index_at, by_index_length, nibble_small}
 use Rattle.cops_types.specs.declared.configs.Config.{Config}
 use Rattle.cops_types.specs.declared.configs.Tenant.{Tenant}
-use Rattle.cops_types.specs.Head.{Front, AtStart, Within, Begun, Follows, Leads, Whole, BadAt, Says, head_of, reading_from, with_tenant}
-use Rattle.cops_types.specs.HeadLines.{IsClusterLine, IsTenantLineTo, are_sizes, begin_line, cluster_line, is_tenant_to, tenant_line}
+use Rattle.cops_types.specs.Head.{Front, AtStart, Within, Begun, Leads, Whole, BadAt, head_of, reading_from}
+use Rattle.cops_types.specs.HeadLines.{IsTenantLineTo, are_sizes, begin_line, cluster_line, is_tenant_to, tenant_line, is_distinct, most_tenants}
 use Rattle.cops_types.specs.Lines.{lines_of, onto_first}
 use Rattle.cops_types.specs.Version.{last_clock}
 use Rattle.cops_types.specs.Words.{is_u64, newline, space, spaced}
-use Rattle.cops_types.proofs.FrontLemmas.{front_after-finds, head_of-says, leads_on}
+use Rattle.cops_types.proofs.FrontLemmas.{front_after-finds}
 use Rattle.cops_types.proofs.HeadLemmas.{sizes_fit, tenant_fits}
 use Rattle.cops_types.proofs.HeadReading.{token_is_word}
-use Rattle.cops_types.proofs.WordLemmas.{IsForeign, Lacks, both, decimal_lacks, lacks_from_test, name_lacks, same_value}
+use Rattle.cops_types.proofs.WordLemmas.{IsForeign, Lacks, both, decimal_lacks, lacks_from_test, name_lacks, same_value, and}
+use Rattle.cops_types.proofs.Elements.{Every-append, Every-from}
+use Rattle.cops_types.specs.TenantTexts.{AreApart, has_text}
+use Rattle.cops_types.proofs.BegunSlots.{apart_more}
+use Rattle.cops_types.proofs.OpenSlotLemmas.{both_fail, left_fails, right_fails, swapped}
+use Rattle.cops_replay.specs.OpenAudits.{with_tenants}
+use Rattle.cops_replay.specs.declared.layouts.Layout.TheVariants.{Today}
+use Rattle.cops_replay.proofs.AuditHeads.{follows_by, head_holds}
+use Rattle.cops_replay.proofs.OldFronts.{FollowsTo}
 
 -- ---- what parses as a token is sixteen bytes
 
@@ -127,17 +136,9 @@ tenant_written last tenant token is =
 newline_foreign : IsForeign 10
 newline_foreign byte h = grind (arith, nat_tests)
 
-all_both : {X : Type 0} (P : X → Type 0) (xs ys : List X) → AllByRecursion P xs → AllByRecursion P ys → AllByRecursion P (xs ++ ys)
-all_both P [] ys all also = also
-all_both P (x ∷ xs) ys all also = (all.0, all_both P xs ys all.1 also)
-
-all_last : {X : Type 0} (P : X → Type 0) (xs ys : List X) → AllByRecursion P (xs ++ ys) → AllByRecursion P ys
-all_last P [] ys all = all
-all_last P (x ∷ xs) ys all = all_last P xs ys all.1
-
-spaced_lacks : (word : List ℕ) (words : List (List ℕ)) → Lacks newline word → AllByRecursion (Lacks newline) words → Lacks newline (spaced (word ∷ words))
+pub spaced_lacks : (word : List ℕ) (words : List (List ℕ)) → Lacks newline word → AllByRecursion (Lacks newline) words → Lacks newline (spaced (word ∷ words))
 spaced_lacks word [] lacks all = lacks
-spaced_lacks word (next ∷ words) lacks all = all_both (λ byte. (byte == newline) ≡ false) word (space ∷ spaced (next ∷ words)) lacks (refl, spaced_lacks next words all.0 all.1)
+spaced_lacks word (next ∷ words) lacks all = Every-append (λ byte. (byte == newline) ≡ false) word (space ∷ spaced (next ∷ words)) lacks (refl, spaced_lacks next words all.0 all.1)
 
 number_lacks : (n : ℕ) → IsTrue (is_u64 n) → Lacks newline (decimal n)
 number_lacks n h = decimal_lacks newline newline_foreign n h
@@ -178,50 +179,117 @@ tenant_lacks last small tenant h =
       ),
     )
 
--- ---- a head that was read leads again as far
+-- ---- tenants of a head
 
--- these lines lead so far, and none has a newline
-record LeadsTo (lines : List (List ℕ)) (front : Front) : Type 0 where
-  leads : Leads AtStart lines front
-  unbroken : AllByRecursion (Lacks newline) lines
+abbrev Any : {A : Type 0} → A → Type 0
+Any x = Unit {0}
 
-abbrev LeadsAgain : Front → Type 0
-LeadsAgain AtStart = Unit {0}
-LeadsAgain (Within config) = LeadsTo (lines_within config) (Within config)
-LeadsAgain (Begun config) = LeadsTo (written_head config) (Begun config)
+-- the tenant is within the limits, with a first clock of at most this, and has a token
+pub record IsFit (last : ℕ) (tenant : Tenant) : Type 0 where
+  pub good : IsTrue (is_tenant_to last tenant)
+  pub token : IsToken tenant.token
 
-one_more : (lines : List (List ℕ)) (front : Front) (line : List ℕ) (next : Front) → LeadsTo lines front → Follows front line next → Lacks newline line → LeadsTo (lines ++ line ∷ []) next
-one_more lines front line next so_far follows lacks = record {
-  leads = leads_on AtStart lines front line next so_far.leads follows;
-  unbroken = all_both (Lacks newline) lines (line ∷ []) so_far.unbroken (lacks, tt);
+abbrev pub AreFit : ℕ → List Tenant → Type 0
+AreFit last tenants = AllByRecursion (IsFit last) tenants
+
+-- no two tenants have one name or one token
+pub record AreAllApart (slots : List (Option Tenant)) : Type 0 where
+  pub names : AreApart (λ tenant. tenant.name) slots
+  pub tokens : AreApart (λ tenant. tenant.token) slots
+
+pub record IsOfHead (last : ℕ) (config : Config) : Type 0 where
+  pub sizes : IsTrue (are_sizes config)
+  pub few : length config.tenants ≤ most_tenants
+  pub fit : AreFit last config.tenants
+  pub apart : AreAllApart (map Some config.tenants)
+
+abbrev pub StandsIn : ℕ → Front → Type 0
+StandsIn last AtStart = Unit {0}
+StandsIn last (Within config) = IsOfHead last config
+StandsIn last (Begun config) = IsOfHead last config
+
+bare_stands : (last : ℕ) (config : Config) → IsTrue (are_sizes config) → config.tenants ≡ [] → IsOfHead last config
+bare_stands last config sizes bare = record {
+  sizes = sizes;
+  few = (let none = ap (λ (ts : List Tenant). length ts) bare in omega (arith, none));
+  fit = subst (AreFit last) (sym bare) tt;
+  apart = subst (λ (ts : List Tenant). AreAllApart (map Some ts)) (sym bare) (record { names = tt; tokens = tt });
 }
 
-follows_again : (front : Front) (line : List ℕ) (next : Front) → LeadsAgain front → Follows front line next → LeadsAgain next
-follows_again AtStart line next again (config, is, e) =
-    let is_line : IsClusterLine (cluster_line config) config = record { spelled = refl; within = is.within; bare = is.bare } in
-    let lacks = cluster_lacks config is.within in
-    let bare_lines : LeadsTo (cluster_line config ∷ []) (Within config) = record { leads = (Within config, (config, is_line, refl), refl); unbroken = (lacks, tt) } in
-    subst LeadsAgain (sym e) (subst (λ tenants. LeadsTo (cluster_line config ∷ map written_tenant tenants) (Within config)) (sym is.bare) bare_lines)
-follows_again (Within config) line next again (inl joins) =
-    let tenant = joins.tenant in
-    let token = parsed_token joins.said.token tenant.token joins.said.parses in
-    let more = one_more (lines_within config) (Within config) (written_tenant tenant) (Within (with_tenant config tenant)) again
-    (inl (record { tenant = tenant; said = tenant_written last_clock tenant token joins.said.within; may = joins.may; after = refl })) (tenant_lacks last_clock (omega arith) tenant joins.said.within) in
-    subst LeadsAgain (sym joins.after)
-    (subst (λ lines. LeadsTo (cluster_line config ∷ lines) (Within (with_tenant config tenant))) (sym (map-append written_tenant config.tenants (tenant ∷ []))) more)
-follows_again (Within config) line next again (inr ends) =
-    subst LeadsAgain (sym ends.after)
-    (one_more (lines_within config) (Within config) begin_line (Begun config) again (inr (record { said = refl; after = refl })) (lacks_from_test newline begin_line refl))
-follows_again (Begun config) line next again follows = absurd follows
+neither : (a b : Bool) → (not a && not b) ≡ true → (a ≡ false) × (b ≡ false)
+neither true b h = absurd cc
+neither false true h = absurd cc
+neither false false h = (refl, refl)
 
-leads_again : (front : Front) (lines : List (List ℕ)) (last : Front) → LeadsAgain front → Leads front lines last → LeadsAgain last
-leads_again front [] last again e = subst LeadsAgain (sym e) again
-leads_again front (line ∷ lines) last again (next, follows, leads) = leads_again next lines last (follows_again front line next again follows) leads
+pub follows_stands : (last : ℕ) (front : Front) (line : List ℕ) (next : Front) → StandsIn last front → FollowsTo last front line next → StandsIn last next
+follows_stands last AtStart line next stands (config, is, e) = subst (StandsIn last) (sym e) (bare_stands last config is.within is.bare)
+follows_stands last (Within old) line next stands (inl joins) =
+    let may = both (nat_lt (length old.tenants) 64) (is_distinct old.tenants joins.tenant) joins.may in
+    let fresh = neither (list_any (λ (other : Tenant). bytes_eq other.name joins.tenant.name) old.tenants) (list_any (λ (other : Tenant). bytes_eq other.token joins.tenant.token) old.tenants) may.1 in
+    let below : length old.tenants < 64 = (let test = may.0 in grind (arith, nat_tests)) in
+    let longer = length-append old.tenants (joins.tenant ∷ []) in
+    subst (StandsIn last) (sym joins.after) (record {
+      sizes = stands.sizes;
+      few = omega (arith, below, longer);
+      fit = Every-append (IsFit last) old.tenants (joins.tenant ∷ []) stands.fit ((record { good = joins.said.within; token = parsed_token joins.said.token joins.tenant.token joins.said.parses }), tt);
+      apart = record {
+        names = apart_more (λ t. t.name) old.tenants joins.tenant stands.apart.names fresh.0;
+        tokens = apart_more (λ t. t.token) old.tenants joins.tenant stands.apart.tokens fresh.1;
+      };
+    })
+follows_stands last (Within old) line next stands (inr ends) = subst (StandsIn last) (sym ends.after) stands
+follows_stands last (Begun old) line next stands follows = absurd follows
 
-head_again : (lines rest : List (List ℕ)) (config : Config) → head_of lines ≡ Whole config rest → LeadsTo (written_head config) (Begun config)
-head_again lines rest config e =
-    let (head, is, whole) = subst (Says lines) e (head_of-says lines) in
-    leads_again AtStart head (Begun config) tt is
+pub of_head : (lines rest : List (List ℕ)) (config : Config) → head_of lines ≡ Whole config rest → IsOfHead last_clock config
+of_head lines rest config e =
+    (head_holds Today (StandsIn last_clock) Any (λ front line next stands is. follows_stands last_clock front line next stands (follows_by Today front line next is)) config rest lines 1 AtStart tt (Every-from Any lines (λ line at. tt)) e).0
+
+-- ---- the lines that are written of such a head
+
+module _ (text_of : Tenant → List ℕ) where
+  -- one among them has another text than one before it
+  differs : (text : List ℕ) (front : List Tenant) (tenant : Tenant) (more : List Tenant) → list_any (has_text text_of text) (map Some (front ++ tenant ∷ more)) ≡ false → bytes_eq (text_of tenant) text ≡ false
+  differs text [] tenant more h = left_fails (bytes_eq (text_of tenant) text) (list_any (has_text text_of text) (map Some more)) h
+  differs text (x ∷ front) tenant more h = differs text front tenant more (right_fails (bytes_eq (text_of x) text) (list_any (has_text text_of text) (map Some (front ++ tenant ∷ more))) h)
+
+  fresh_behind : (front : List Tenant) (tenant : Tenant) (more : List Tenant) → AreApart text_of (map Some (front ++ tenant ∷ more)) → list_any (λ (other : Tenant). bytes_eq (text_of other) (text_of tenant)) front ≡ false
+  fresh_behind [] tenant more apart = refl
+  fresh_behind (x ∷ front) tenant more apart =
+      both_fail (bytes_eq (text_of x) (text_of tenant)) (list_any (λ (other : Tenant). bytes_eq (text_of other) (text_of tenant)) front)
+      (swapped (text_of x) (text_of tenant) ∙ differs (text_of x) front tenant more apart.0) (fresh_behind front tenant more apart.1)
+
+is_new_among : (a b : Bool) → a ≡ false → b ≡ false → (not a && not b) ≡ true
+is_new_among false false p q = refl
+is_new_among false true p q = absurd cc
+is_new_among true b p q = absurd cc
+
+below_test : (n : ℕ) → n < most_tenants → nat_lt n most_tenants ≡ true
+below_test n h = grind (arith, nat_tests)
+
+-- behind these tenants the others join, and then the head ends
+tenants_lead : (config : Config) (front more : List Tenant) → length (front ++ more) ≤ most_tenants → AreFit last_clock more → AreAllApart (map Some (front ++ more)) →
+    Leads (Within (with_tenants config front)) (map written_tenant more ++ begin_line ∷ []) (Begun (with_tenants config (front ++ more)))
+tenants_lead config front [] few fit apart = (Begun (with_tenants config front), inr (record { said = refl; after = refl }), ap (λ (ts : List Tenant). Begun (with_tenants config ts)) (append-nil front))
+tenants_lead config front (tenant ∷ more) few fit apart =
+    let together = append_assoc front (tenant ∷ []) more in
+    let long = length-append front (tenant ∷ more) in
+    let may = and (nat_lt (length front) most_tenants) (is_distinct front tenant) (below_test (length front) (omega (arith, long, few)))
+    (is_new_among (list_any (λ (other : Tenant). bytes_eq other.name tenant.name) front) (list_any (λ (other : Tenant). bytes_eq other.token tenant.token) front)
+    (fresh_behind (λ t. t.name) front tenant more apart.names) (fresh_behind (λ t. t.token) front tenant more apart.tokens)) in
+    let rest = tenants_lead config (front ++ tenant ∷ []) more (subst (λ (ts : List Tenant). length ts ≤ most_tenants) (sym together) few) fit.1 (subst (λ (ts : List Tenant). AreAllApart (map Some ts)) (sym together) apart) in (
+      Within (with_tenants config (front ++ tenant ∷ [])),
+      inl (record { tenant = tenant; said = tenant_written last_clock tenant fit.0.token fit.0.good; may = may; after = refl }),
+      subst (λ (ts : List Tenant). Leads (Within (with_tenants config (front ++ tenant ∷ []))) (map written_tenant more ++ begin_line ∷ []) (Begun (with_tenants config ts))) together rest,
+    )
+
+pub head_leads : (config : Config) (tenants : List Tenant) → IsTrue (are_sizes config) → length tenants ≤ most_tenants → AreFit last_clock tenants → AreAllApart (map Some tenants) →
+    Leads AtStart (written_head (with_tenants config tenants)) (Begun (with_tenants config tenants))
+head_leads config tenants sizes few fit apart =
+    (Within (with_tenants config []), (with_tenants config [], record { spelled = refl; within = sizes; bare = refl }, refl), tenants_lead config [] tenants few fit apart)
+
+tenants_lack : (tenants : List Tenant) → AreFit last_clock tenants → AllByRecursion (Lacks newline) (map written_tenant tenants ++ begin_line ∷ [])
+tenants_lack [] fit = (lacks_from_test newline begin_line refl, tt)
+tenants_lack (tenant ∷ tenants) fit = (tenant_lacks last_clock (omega arith) tenant fit.0.good, tenants_lack tenants fit.1)
 
 -- the lines of a whole head, from any number on, are read as that head
 pub head_read : (lines rest : List (List ℕ)) (number : ℕ) (front : Front) (config : Config) → Leads front lines (Begun config) → reading_from (lines ++ rest) number front ≡ Whole config rest
@@ -236,16 +304,16 @@ head_read (line ∷ lines) rest number (Begun found) config (next, follows, lead
 
 -- what is written of a head that was read is read back as that head, whatever lines come after it
 pub head_reads_back : (lines rest others : List (List ℕ)) (number : ℕ) (config : Config) → head_of lines ≡ Whole config rest → reading_from (written_head config ++ others) number AtStart ≡ Whole config others
-head_reads_back lines rest others number config e = head_read (written_head config) others number AtStart config (head_again lines rest config e).leads
+head_reads_back lines rest others number config e =
+    let is = of_head lines rest config e in
+    head_read (written_head config) others number AtStart config (head_leads config config.tenants is.sizes is.few is.fit is.apart)
 
 pub head_unbroken : (lines rest : List (List ℕ)) (config : Config) → head_of lines ≡ Whole config rest → AllByRecursion (Lacks newline) (written_head config)
-head_unbroken lines rest config e = (head_again lines rest config e).unbroken
+head_unbroken lines rest config e = let is = of_head lines rest config e in (cluster_lacks config is.sizes, tenants_lack config.tenants is.fit)
 
 -- what holds of all lines holds of those after the head
 pub holds_of_rest : (P : List ℕ → Type 0) (lines rest : List (List ℕ)) (config : Config) → head_of lines ≡ Whole config rest → AllByRecursion P lines → AllByRecursion P rest
-holds_of_rest P lines rest config e all =
-    let (head, is, whole) = subst (Says lines) e (head_of-says lines) in
-    all_last P head rest (subst (AllByRecursion P) whole all)
+holds_of_rest P lines rest config e all = (head_holds Today Any P (λ front line next any is. tt) config rest lines 1 AtStart tt all e).1
 
 -- ---- texts
 

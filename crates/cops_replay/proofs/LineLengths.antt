@@ -29,8 +29,9 @@ use Rattle.cops_model.specs.declared.calls.Wanted.TheVariants.{Latest, Exactly}
 use Rattle.cops_model.specs.ListLimits.{HasFewInCall, HasFewInReply, HasFewPairs}
 use Rattle.cops_replay.specs.declared.Record.{Record}
 use Rattle.cops_types.specs.PairForms.{are_deps, are_near, is_pair, is_version}
+use Rattle.cops_types.proofs.HeadLengths.{name-short}
 use Rattle.cops_replay.specs.RecordText.{call_words, entry_words, is_audited, is_bytes, is_call, is_entry, is_record, is_reply, is_wanted, node_text, record_line, record_value, record_words, reply_words, wanted_text}
-use Rattle.cops_replay.proofs.Digits.{length-bytes_text}
+use Rattle.cops_replay.proofs.PartLemmas.{length-bytes_text}
 use Rattle.cops_replay.proofs.WordsLack.{entry_holds, record_holds}
 
 -- ---- words
@@ -54,7 +55,7 @@ long-append (word ∷ words) more = let later = long-append words more in omega 
 
 -- ---- parts
 
-at_most : (n m : ℕ) → IsTrue (nat_le n m) → n ≤ m
+pub at_most : (n m : ℕ) → IsTrue (nat_le n m) → n ≤ m
 at_most n m h = grind (arith, nat_tests)
 
 number_short : (n : ℕ) → IsTrue (is_u64 n) → length (decimal n) ≤ 20
@@ -85,9 +86,6 @@ key_short : (key : List ℕ) → IsTrue (is_key key) → length key ≤ 64
 key_short key h =
     let parts = both (nat_le 1 (length key) && nat_le (length key) 64) (list_all is_key_byte key) h in
     at_most (length key) 64 (both (nat_le 1 (length key)) (nat_le (length key) 64) parts.0).1
-
-name_short : (name : List ℕ) → IsTrue (is_name name) → length name ≤ 16
-name_short name h = at_most (length name) 16 (both (is_key name) (nat_le (length name) 16) h).1
 
 value_short : (value : List ℕ) → IsTrue (is_bytes value) → length (record_value value) ≤ 8193
 value_short [] h = omega arith
@@ -200,11 +198,7 @@ module _ (config : TenantConfig) (limit : config.quota.deps ≤ 1024) where
   most_small : (call : NodeCall) → most call ≤ 187000
   most_small (Put key value deps near) = omega arith
   most_small (Commit entry) = omega arith
-  most_small (Get key wanted) = omega arith
-  most_small (DepCheck key version) = omega arith
-  most_small (Pull dc) = omega arith
-  most_small (Ack dc version) = omega arith
-  most_small Collect = omega arith
+  most_small call = omega arith
 
   -- with its reply
   small_reply : (call : NodeCall) (words : List (List ℕ)) → long words ≤ 100 → most call + long words ≤ 187300
@@ -212,39 +206,23 @@ module _ (config : TenantConfig) (limit : config.quota.deps ≤ 1024) where
 
   reply_short : (reply : NodeReply) (call : NodeCall) → IsTrue (is_reply reply) → HasFewInReply config reply call → most call + long (reply_words reply) ≤ 187300
   reply_short (Found f) (Get key wanted) h few = let a = found_short f.version f.value f.deps h few in omega (arith, a)
-  reply_short (Found f) (Put k v d n) h few = absurd few
-  reply_short (Found f) (DepCheck k v) h few = absurd few
-  reply_short (Found f) (Pull dc) h few = absurd few
-  reply_short (Found f) (Commit e) h few = absurd few
-  reply_short (Found f) (Ack dc v) h few = absurd few
-  reply_short (Found f) Collect h few = absurd few
+  reply_short (Found f) call h few = absurd few
   reply_short (Pulled entry) (Pull dc) h few = let a = entry_short entry h few in omega (arith, a)
-  reply_short (Pulled entry) (Get k w) h few = absurd few
-  reply_short (Pulled entry) (Put k v d n) h few = absurd few
-  reply_short (Pulled entry) (DepCheck k v) h few = absurd few
-  reply_short (Pulled entry) (Commit e) h few = absurd few
-  reply_short (Pulled entry) (Ack dc v) h few = absurd few
-  reply_short (Pulled entry) Collect h few = absurd few
-  reply_short Absent call h few = small_reply call (reply_words Absent) (omega arith)
+  reply_short (Pulled entry) call h few = absurd few
   reply_short (Gone now) call h few = small_reply call (reply_words (Gone now)) (let a = number_short now h in omega (arith, a))
-  reply_short NotYet call h few = small_reply call (reply_words NotYet) (omega arith)
   reply_short (Stored version) call h few = small_reply call (reply_words (Stored version)) (let a = version_short version h in omega (arith, a))
   reply_short (Checked true) call h few = small_reply call (reply_words (Checked true)) (omega arith)
   reply_short (Checked false) call h few = small_reply call (reply_words (Checked false)) (omega arith)
-  reply_short Nothing call h few = small_reply call (reply_words Nothing) (omega arith)
-  reply_short Committed call h few = small_reply call (reply_words Committed) (omega arith)
-  reply_short Already call h few = small_reply call (reply_words Already) (omega arith)
   reply_short (OutOfOrder mark) call h few = small_reply call (reply_words (OutOfOrder mark)) (let a = version_short mark h in omega (arith, a))
-  reply_short Acked call h few = small_reply call (reply_words Acked) (omega arith)
-  reply_short NotFront call h few = small_reply call (reply_words NotFront) (omega arith)
   reply_short (Removed count) call h few = small_reply call (reply_words (Removed count)) (let a = number_short count h in omega (arith, a))
   reply_short (Refused fault) call h few = small_reply call (reply_words (Refused fault)) (let a = fault_short fault h in omega (arith, a))
+  reply_short reply call h few = small_reply call (reply_words reply) (omega arith)
 
   pub line_short : (tenant : List ℕ) (told : Record) → IsTrue (is_name tenant) → IsTrue (is_record told) → HasFewInCall config told.call → HasFewInReply config told.reply told.call →
       length (record_line tenant told) ≤ 200000
   line_short tenant told named h asked answered =
       let holds = record_holds told h in
-      let a = name_short tenant named in
+      let a = name-short tenant named in
       let b = node_short told.node holds.dc holds.shard in
       let c = number_short told.moment holds.moment in
       let d = call_short told.call holds.call asked in

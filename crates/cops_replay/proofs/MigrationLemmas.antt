@@ -5,6 +5,7 @@ use Rattle.std.specs.Option.{option_map, option_and_then}
 use Rattle.std.specs.Str.{bytes_eq}
 use Rattle.std.specs.Io.KnownBytes.{Appends}
 use Rattle.std.proofs.lemmas.Bool.Decides.{nat_tests}
+use Rattle.std.proofs.lemmas.List.{take_all}
 use Rattle.cops_types.specs.declared.configs.Config.{Config}
 use Rattle.cops_types.specs.declared.configs.Tenant.{Tenant}
 use Rattle.cops_types.specs.declared.faults.Fault.{Fault}
@@ -17,7 +18,7 @@ use Rattle.cops_types.specs.HeadLines.{begin_line}
 use Rattle.cops_script.specs.LineRules.{Run}
 use Rattle.cops_script.specs.LineRuns.{AnswersAll, IfRunRefused, StopsEarly}
 use Rattle.cops_types.specs.Lines.{lines_of, cut_line, cut_lines}
-use Rattle.cops_types.specs.OldHead.{has_clocks_to, old_cluster_in, old_front_after, old_tenant_in}
+use Rattle.cops_types.specs.OldHead.{has_clocks_to, old_cluster_in, old_front_after, old_tenant_in, last_old_clock}
 use Rattle.cops_types.specs.Sink.{AppendsFront}
 use Rattle.cops_script.proofs.KnownLemmas.{AppendsFront-more, input_is, known_lines, known_whole}
 use Rattle.cops_script.proofs.HeadRuns.{real_lines}
@@ -32,24 +33,15 @@ use Rattle.cops_replay.specs.MigrationRules.{OldHeadIsRefused, RecordRefuses, mi
 use Rattle.cops_replay.specs.OldRecords.{last_early_clock, old_refusal_of}
 use Rattle.cops_replay.specs.ReplayText.{longest_record, told_number}
 use Rattle.cops_replay.specs.declared.layouts.Layout.TheVariants.{Early}
-use Rattle.cops_replay.proofs.AuditHeads.{cut_in_head, take_all}
+use Rattle.cops_replay.proofs.AuditHeads.{cut_in_head}
+use Rattle.cops_replay.proofs.OldFronts.{FollowsTo, old_front_after-is}
+use Rattle.cops_replay.proofs.RecordRuns.{capped_more, same_cut}
 
 -- ---- lines, as they are cut
 
 -- a line that is too long is none, cut or not
 fault_cut : (line : List ℕ) → record_fault (cut_line longest_record line) ≡ record_fault line
-fault_cut line = by_length (nat_le (length line) (longest_record + 1)) refl
-  where
-    too_long : (l : List ℕ) (t : Bool) → nat_le (length l) longest_record ≡ t → longest_record < length l → record_fault l ≡ Some Syntax
-    too_long l true e long = absurd (let small : length l ≤ longest_record = grind (arith, nat_tests) in omega (arith, small))
-    too_long l false e long = ap (λ b. cond b (old_refusal_of l) (Some Syntax)) e
-
-    by_length : (t : Bool) → nat_le (length line) (longest_record + 1) ≡ t → record_fault (cut_line longest_record line) ≡ record_fault line
-    by_length true is = let short : length line ≤ longest_record + 1 = grind (arith, nat_tests) in ap record_fault (take_all (longest_record + 1) line short)
-    by_length false is =
-        let long : longest_record + 1 < length line = grind (arith, nat_tests) in
-        let size : length (cut_line longest_record line) ≡ longest_record + 1 = length-take (longest_record + 1) line ∙ omega arith in
-        too_long (cut_line longest_record line) (nat_le (length (cut_line longest_record line)) longest_record) refl (omega (arith, size)) ∙ sym (too_long line (nat_le (length line) longest_record) refl (omega arith))
+fault_cut line = same_cut {A = Option Fault} (λ b l. cond b (old_refusal_of l) (Some Syntax)) (Some Syntax) (λ l. refl) line
 
 -- a line that is moved isn't cut
 moved_whole : (line : List ℕ) → record_fault line ≡ None → cut_line longest_record line ≡ line
@@ -58,9 +50,6 @@ moved_whole line fine = by_length (nat_le (length line) longest_record) refl
     by_length : (t : Bool) → nat_le (length line) longest_record ≡ t → cut_line longest_record line ≡ line
     by_length true is = let short : length line ≤ longest_record + 1 = grind (arith, nat_tests) in take_all (longest_record + 1) line short
     by_length false is = let wrong : Some Syntax ≡ None = sym (ap (λ b. cond b (old_refusal_of line) (Some Syntax)) is) ∙ fine in absurd (let clash : ⊥ = cc in clash)
-
-counted_more : (n : ℕ) → counted (told_number n) ≡ told_number (n + 1)
-counted_more n = grind arith
 
 -- ---- where a migration stands
 
@@ -84,26 +73,11 @@ HasReached reached audit = IsAt reached audit.part audit.lines
 -- ---- one line of the head
 
 -- the line of a head after which it is whole
-begun_clocks : (front : Front) (line : List ℕ) (config : Config) → old_front_after front line ≡ Some (Begun config) → IsTrue (has_clocks_to last_early_clock (Some front)) → IsTrue (has_clocks_to last_early_clock (Some (Begun config)))
-begun_clocks AtStart line config e fine = by_cluster (old_cluster_in line) e
-  where
-    by_cluster : (found : Option Config) → option_map Within found ≡ Some (Begun config) → IsTrue (has_clocks_to last_early_clock (Some (Begun config)))
-    by_cluster None e = absurd (let clash : ⊥ = cc in clash)
-    by_cluster (Some other) e = absurd (let clash : ⊥ = cc in clash)
-begun_clocks (Within old) line config e fine = by_begin (bytes_eq line begin_line) e
-  where
-    by_place : (t : Bool) (tenant : Tenant) → cond t (Some (Within (with_tenant old tenant))) None ≡ Some (Begun config) → IsTrue (has_clocks_to last_early_clock (Some (Begun config)))
-    by_place true tenant e = absurd (let clash : ⊥ = cc in clash)
-    by_place false tenant e = absurd (let clash : ⊥ = cc in clash)
-
-    by_tenant : (found : Option Tenant) → option_and_then (head_with old) found ≡ Some (Begun config) → IsTrue (has_clocks_to last_early_clock (Some (Begun config)))
-    by_tenant None e = absurd (let clash : ⊥ = cc in clash)
-    by_tenant (Some tenant) e = by_place (may_join old tenant) tenant e
-
-    by_begin : (t : Bool) → cond t (Some (Begun old)) (option_and_then (head_with old) (old_tenant_in line)) ≡ Some (Begun config) → IsTrue (has_clocks_to last_early_clock (Some (Begun config)))
-    by_begin true e = let same : old ≡ config = cc in subst (λ (c : Config). IsTrue (has_clocks_to last_early_clock (Some (Begun c)))) same fine
-    by_begin false e = by_tenant (old_tenant_in line) e
-begun_clocks (Begun old) line config e fine = absurd (let clash : ⊥ = cc in clash)
+begun_clocks : (front : Front) (line : List ℕ) (config : Config) → FollowsTo last_old_clock front line (Begun config) → IsTrue (has_clocks_to last_early_clock (Some front)) → IsTrue (has_clocks_to last_early_clock (Some (Begun config)))
+begun_clocks AtStart line config (other, is, after) fine = absurd (let clash : ⊥ = cc in clash)
+begun_clocks (Within old) line config (inl joins) fine = absurd (let after = joins.after in let clash : ⊥ = cc in clash)
+begun_clocks (Within old) line config (inr ends) fine = subst (λ (f : Front). IsTrue (has_clocks_to last_early_clock (Some f))) (sym ends.after) fine
+begun_clocks (Begun old) line config follows fine = absurd follows
 
 -- what the line of this number leads to
 pub front_goes : (number : ℕ) (front next : Front) (line : List ℕ) → old_front_after front line ≡ Some next → (t : Bool) → has_clocks_to last_early_clock (Some next) ≡ t → migrated_front number front line ≡ cond t (Ok next) (Err (bad_line_at number ClockTooGreat))
@@ -144,18 +118,18 @@ step_in_head front n line text old new (at, count, still, fine) lines (Head read
     let found : old_front_after front line ≡ Some g.next = sym (cut_in_head Early front line) ∙ g.found in
     record {
       next = InHead g.next (n + 1);
-      there = (is ∙ ap Head g.kept, lines ∙ ap counted count ∙ counted_more n, g.still, g.clocks);
+      there = (is ∙ ap Head g.kept, lines ∙ ap counted count ∙ capped_more n, g.still, g.clocks);
       goes = λ later.
           head_line (n + 1) front line later (Ok g.next) still (front_goes (n + 1) front g.next line found true g.clocks)
           ∙ ap (λ t. with_text t (migrated_from later (n + 1 + 1) g.next)) (sym silent);
     }
 step_in_head front n line text old new (at, count, still, fine) lines (Records k) is (config, ends, text_is, none) =
     let found : old_front_after front line ≡ Some (Begun config) = sym (cut_in_head Early front line) ∙ ends in
-    let clocks = begun_clocks front line config found fine in
+    let clocks = begun_clocks front line config (old_front_after-is front line (Begun config) found) fine in
     let zeroth : 0 ≡ told_number 0 = omega arith in
     record {
       next = InRecords (n + 1) 0;
-      there = (is ∙ ap Records (none ∙ zeroth), lines ∙ ap counted count ∙ counted_more n);
+      there = (is ∙ ap Records (none ∙ zeroth), lines ∙ ap counted count ∙ capped_more n);
       goes = λ later.
           head_line (n + 1) front line later (Ok (Begun config)) still (front_goes (n + 1) front (Begun config) line found true clocks)
           ∙ ap (λ t. with_text t (migrated_records later (n + 1 + 1) 0)) (sym text_is);
@@ -172,7 +146,7 @@ step_in_records n k line text old new (at, count) lines (moved, text_is, part_is
     let fine : record_fault line ≡ None = sym (fault_cut line) ∙ moved in
     record {
       next = InRecords (n + 1) (k + 1);
-      there = (part_is ∙ ap Records (counted_more k), lines ∙ ap counted count ∙ counted_more n);
+      there = (part_is ∙ ap Records (capped_more k), lines ∙ ap counted count ∙ capped_more n);
       goes = λ later.
           record_line_left (n + 1) k line later None fine
           ∙ ap (λ t. with_text t (migrated_records later (n + 1 + 1) (k + 1))) (sym (text_is ∙ ap ended (moved_whole line fine)));
@@ -193,10 +167,10 @@ refused_line (InHead front n) line later audit refusal (at, count, still, fine) 
     by_refusal : (refusal : MigrationRefusal) → OldHeadIsRefused (Some front) (cut_line longest_record line) (counted audit.lines) refusal → migrated_from (line ∷ later) (n + 1) front ≡ ends_by (Err refusal)
     by_refusal (BadConfig bad) (none, number) =
         head_line (n + 1) front line later (Err (bad_config_at (n + 1))) still (front_stops (n + 1) front line (sym (cut_in_head Early front line) ∙ none))
-        ∙ ap (λ k. ends_by (Err (BadConfig (record { line = k })))) (sym (number ∙ ap counted count ∙ counted_more n))
+        ∙ ap (λ k. ends_by (Err (BadConfig (record { line = k })))) (sym (number ∙ ap counted count ∙ capped_more n))
     by_refusal (BadLine bad) (next, found, great, number, fault_is) =
         head_line (n + 1) front line later (Err (bad_line_at (n + 1) ClockTooGreat)) still (front_goes (n + 1) front next line (sym (cut_in_head Early front line) ∙ found) false great)
-        ∙ (λ i. ends_by (Err (BadLine (record { line = sym (number ∙ ap counted count ∙ counted_more n) i; fault = sym fault_is i }))))
+        ∙ (λ i. ends_by (Err (BadLine (record { line = sym (number ∙ ap counted count ∙ capped_more n) i; fault = sym fault_is i }))))
 refused_line (InRecords n k) line later audit refusal (at, count) refuses =
     by_refusal refusal (subst (λ (p : OldPart). part_refuses p (cut_line longest_record line) (counted audit.lines) refusal) at refuses)
   where
@@ -204,7 +178,7 @@ refused_line (InRecords n k) line later audit refusal (at, count) refuses =
     by_refusal (BadConfig bad) refuses = absurd refuses
     by_refusal (BadLine bad) (found, number) =
         record_line_left (n + 1) k line later (Some bad.fault) (sym (fault_cut line) ∙ found)
-        ∙ (λ i. ends_by (Err (BadLine (record { line = sym (number ∙ ap counted count ∙ counted_more n) i; fault = bad.fault }))))
+        ∙ (λ i. ends_by (Err (BadLine (record { line = sym (number ∙ ap counted count ∙ capped_more n) i; fault = bad.fault }))))
 
 refused_end : (reached : Reached) (audit : OldAudit) (refusal : MigrationRefusal) → HasReached reached audit → migration_end_refuses audit refusal → left_of reached [] ≡ ends_by (Err refusal)
 refused_end (InHead front n) audit refusal (at, count, still, fine) refuses =
@@ -216,7 +190,7 @@ refused_end (InHead front n) audit refusal (at, count, still, fine) refuses =
     at_end (Begun config) number still = absurd (true≢false still)
 
     by_refusal : (refusal : MigrationRefusal) → part_refuses_end (Head (Some front)) (counted audit.lines) refusal → migrated_from [] (n + 1) front ≡ ends_by (Err refusal)
-    by_refusal (BadConfig bad) number = at_end front (n + 1) still ∙ ap (λ k. ends_by (Err (BadConfig (record { line = k })))) (sym (number ∙ ap counted count ∙ counted_more n))
+    by_refusal (BadConfig bad) number = at_end front (n + 1) still ∙ ap (λ k. ends_by (Err (BadConfig (record { line = k })))) (sym (number ∙ ap counted count ∙ capped_more n))
     by_refusal (BadLine bad) refuses = absurd refuses
 refused_end (InRecords n k) audit refusal (at, count) refuses = absurd (subst (λ (p : OldPart). part_refuses_end p (counted audit.lines) refusal) at refuses)
 
@@ -329,6 +303,4 @@ module _ (old_contents new_contents new_remaining : Option (List ℕ)) (begins :
       IfRunRefused why (λ refusal. IfSome known (λ bytes. (migration_of bytes).outcome ≡ Err refusal))
   refusal_told None (fault.Refused refusal) p = tt
   refusal_told (Some bytes) (fault.Refused refusal) p = refusal_is bytes refusal p
-  refusal_told known fault.OutOfMemory p = tt
-  refusal_told known fault.ReadFault p = tt
-  refusal_told known fault.WriteFault p = tt
+  refusal_told known why p = tt

@@ -9,7 +9,7 @@ use Rattle.cops_types.specs.declared.configs.Tenant.{Tenant}
 use Rattle.cops_types.specs.declared.heads.HeadLine.{HeadLine}
 use Rattle.cops_types.specs.declared.heads.HeadLine.TheVariants.{More, Begin, BadLine}
 use Rattle.cops_types.specs.Counts.{counted}
-use Rattle.cops_types.specs.Head.{Front, AtStart, Within, Begun, Ends, Joins, head_with, may_join, with_tenant}
+use Rattle.cops_types.specs.Head.{Front, AtStart, Within, Begun, Ends, Follows, Joins, head_with, may_join, with_tenant}
 use Rattle.cops_types.specs.HeadLines.{IsClusterLine, IsTenantLineTo, are_sizes, begin_line, cluster_in, is_tenant, tenant_line}
 use Rattle.cops_types.specs.HeadReader.{said_at, still_open}
 use Rattle.cops_types.specs.OldHead.{last_old_clock, most_old_shards, old_front_after, old_front_with, old_tenant_in, with_few_shards}
@@ -24,40 +24,48 @@ use Rattle.cops_replay.specs.OldHeads.{OldHeadContinues, has_sizes}
 
 -- ---- one line
 
--- the line gives one more tenant
-pub record OldJoins (config : Config) (line : List ℕ) (next : Front) : Type 0 where
+-- the line gives one more tenant, whose first clock is at most this
+pub record JoinsTo (last : ℕ) (config : Config) (line : List ℕ) (next : Front) : Type 0 where
   pub tenant : Tenant
-  pub said : IsTenantLineTo last_old_clock line tenant
+  pub said : IsTenantLineTo last line tenant
   pub may : IsTrue (may_join config tenant)
   pub after : next ≡ Within (with_tenant config tenant)
 
-abbrev pub OldFollows : Front → List ℕ → Front → Type 0
-OldFollows AtStart line next = (config : Config) × IsClusterLine line config × (next ≡ Within config)
-OldFollows (Within config) line next = OldJoins config line next ⊎ Ends config line next
-OldFollows (Begun config) line next = ⊥
+-- the line may follow here, if first clocks are at most this
+abbrev pub FollowsTo : ℕ → Front → List ℕ → Front → Type 0
+FollowsTo last AtStart line next = (config : Config) × IsClusterLine line config × (next ≡ Within config)
+FollowsTo last (Within config) line next = JoinsTo last config line next ⊎ Ends config line next
+FollowsTo last (Begun config) line next = ⊥
 
-joined-is : (config : Config) (line : List ℕ) (next : Front) (found : Option Tenant) → old_tenant_in line ≡ found → option_and_then (head_with config) found ≡ Some next → OldJoins config line next
+-- today's lines
+pub follows_today : (front : Front) (line : List ℕ) (next : Front) → Follows front line next → FollowsTo last_clock front line next
+follows_today AtStart line next follows = follows
+follows_today (Within config) line next (inl joins) = inl (record { tenant = joins.tenant; said = joins.said; may = joins.may; after = joins.after })
+follows_today (Within config) line next (inr ends) = inr ends
+follows_today (Begun config) line next follows = follows
+
+joined-is : (config : Config) (line : List ℕ) (next : Front) (found : Option Tenant) → old_tenant_in line ≡ found → option_and_then (head_with config) found ≡ Some next → JoinsTo last_old_clock config line next
 joined-is config line next None was e = absurd cc
 joined-is config line next (Some tenant) was e = by_place (may_join config tenant) refl e
   where
-    by_place : (t : Bool) → may_join config tenant ≡ t → cond t (Some (Within (with_tenant config tenant))) None ≡ Some next → OldJoins config line next
+    by_place : (t : Bool) → may_join config tenant ≡ t → cond t (Some (Within (with_tenant config tenant))) None ≡ Some next → JoinsTo last_old_clock config line next
     by_place false may e = absurd cc
     by_place true may e = record { tenant = tenant; said = tenant_in_to-is last_old_clock line tenant was; may = may; after = sym (same_value (Within (with_tenant config tenant)) next e) }
 
 within-is : (config : Config) (line : List ℕ) (next : Front) (t : Bool) → bytes_eq line begin_line ≡ t →
-    cond t (Some (Begun config)) (option_and_then (head_with config) (old_tenant_in line)) ≡ Some next → OldJoins config line next ⊎ Ends config line next
+    cond t (Some (Begun config)) (option_and_then (head_with config) (old_tenant_in line)) ≡ Some next → JoinsTo last_old_clock config line next ⊎ Ends config line next
 within-is config line next false begins e = inl (joined-is config line next (old_tenant_in line) refl e)
 within-is config line next true begins e = inr (record { said = bytes_from_test line begin_line begins; after = sym (same_value (Begun config) next e) })
 
-start-is : (line : List ℕ) (next : Front) (found : Option Config) → cluster_in line ≡ found → option_map Within (option_and_then with_few_shards found) ≡ Some next → OldFollows AtStart line next
+start-is : (line : List ℕ) (next : Front) (found : Option Config) → cluster_in line ≡ found → option_map Within (option_and_then with_few_shards found) ≡ Some next → FollowsTo last_old_clock AtStart line next
 start-is line next None was e = absurd cc
 start-is line next (Some config) was e = by_few (nat_le config.shards most_old_shards) e
   where
-    by_few : (t : Bool) → option_map Within (cond t (Some config) None) ≡ Some next → OldFollows AtStart line next
+    by_few : (t : Bool) → option_map Within (cond t (Some config) None) ≡ Some next → FollowsTo last_old_clock AtStart line next
     by_few false e = absurd cc
     by_few true e = (config, cluster_in-is line config was, sym (same_value (Within config) next e))
 
-pub old_front_after-is : (front : Front) (line : List ℕ) (next : Front) → old_front_after front line ≡ Some next → OldFollows front line next
+pub old_front_after-is : (front : Front) (line : List ℕ) (next : Front) → old_front_after front line ≡ Some next → FollowsTo last_old_clock front line next
 old_front_after-is AtStart line next e = start-is line next (cluster_in line) refl e
 old_front_after-is (Within config) line next e = within-is config line next (bytes_eq line begin_line) refl e
 old_front_after-is (Begun config) line next e = absurd cc
@@ -103,7 +111,7 @@ tenant-short line tenant is =
     let here : length (tenant_line is.token tenant) ≤ length (tenant_line is.token other) + 20 = more in
     subst (λ l. length l ≤ 16384) (sym is.spelled) (omega (arith, short, here))
 
-follows-short : (front : Front) (line : List ℕ) (next : Front) → OldFollows front line next → length line ≤ 16384
+follows-short : (front : Front) (line : List ℕ) (next : Front) → FollowsTo last_old_clock front line next → length line ≤ 16384
 follows-short AtStart line next (config, is, after) =
     let short = front_after-short AtStart line (Within config) (front_after-finds AtStart line (Within config) (config, is, refl)) in omega (arith, short)
 follows-short (Within config) line next (inl joins) = tenant-short line joins.tenant joins.said
@@ -116,7 +124,7 @@ old_front_after-short front line next e = follows-short front line next (old_fro
 
 -- ---- the sizes
 
-follows_sized : (front : Front) (line : List ℕ) (next : Front) → OldFollows front line next → IsTrue (has_sizes (Some front)) → IsTrue (has_sizes (Some next))
+follows_sized : (front : Front) (line : List ℕ) (next : Front) → FollowsTo last_old_clock front line next → IsTrue (has_sizes (Some front)) → IsTrue (has_sizes (Some next))
 follows_sized AtStart line next f good = subst (λ n. IsTrue (has_sizes (Some n))) (sym f.2) f.1.within
 follows_sized (Within config) line next (inl joins) good = subst (λ n. IsTrue (has_sizes (Some n))) (sym joins.after) good
 follows_sized (Within config) line next (inr ends) good = subst (λ n. IsTrue (has_sizes (Some n))) (sym ends.after) good
@@ -145,7 +153,7 @@ begin_sized front line config good is = subst (λ f. IsTrue (has_sizes f)) is (f
 -- ---- what a reader said
 
 -- no line leads back to the start
-not_back : (front : Front) (line : List ℕ) → OldFollows front line AtStart → ⊥
+not_back : (front : Front) (line : List ℕ) → FollowsTo last_old_clock front line AtStart → ⊥
 not_back AtStart line f = cc
 not_back (Within config) line (inl joins) = let after = joins.after in cc
 not_back (Within config) line (inr ends) = let after = ends.after in cc

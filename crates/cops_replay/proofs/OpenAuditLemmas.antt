@@ -6,13 +6,16 @@ use Rattle.cops_types.specs.declared.configs.Config.{Config}
 use Rattle.cops_types.specs.declared.configs.Tenant.{Tenant}
 use Rattle.cops_types.specs.Head.{Whole, head_of}
 use Rattle.cops_types.specs.TenantConfig.{tenant_config}
-use Rattle.cops_node.specs.Clusters.{shape_of}
+use Rattle.cops_node.specs.Clusters.{shape_of, IsCluster}
 use Rattle.cops_node.specs.Parts.{AuditFits, Shared}
 use Rattle.cops_replay.specs.OpenAudits.{AreNodesAt, AreNodesOfOpen, audit_at, nodes_at, open_audit_of, open_config_of, open_nodes_of, open_slots, open_tenants, with_tenants}
 use Rattle.cops_replay.specs.WrittenAudits.{AllReplaySame, AreFormed, HaveLines, SaysSame}
 use Rattle.cops_replay.proofs.NodeAudits.{cluster_replays_same}
 use Rattle.cops_replay.proofs.OpenLists.{nodes_of_open}
 use Rattle.cops_replay.proofs.WrittenAudits.{says_same}
+use Rattle.cops_replay.specs.AuditRuns.{HasItsTenants, open_config, open_nodes}
+use Rattle.cops_replay.specs.AuditText.{audit_text}
+use Rattle.cops_world.specs.Worlds.{KeptWorld}
 
 -- these are the open tenants, and their slots
 pub record AreOpenOf (tenants : List (Option Tenant)) (found : List Tenant) (slots : List ℕ) : Type 0 where
@@ -45,3 +48,28 @@ pub open_says : (config : Config) (tenants : List (Option Tenant)) (nodes : List
     SaysSame (open_config_of config tenants) (open_nodes_of config tenants nodes) (open_audit_of config tenants nodes)
 open_says config tenants nodes same lines rest head all =
     λ place tenant e. says_same lines rest (open_config_of config tenants) (open_nodes_of config tenants nodes) place tenant head all e (same place tenant e)
+
+-- ---- of a world
+
+-- these are the world's configuration, its open tenants by slot, and its nodes
+pub record AreOfWorld (world : KeptWorld) (config : Config) (tenants : List (Option Tenant)) (nodes : List Shared) : Type 0 where
+  pub config_is : config ≡ world.setup.head
+  pub tenants_are : tenants ≡ world.setup.tenants
+  pub nodes_are : nodes ≡ world.nodes.nodes
+
+module _ (world : KeptWorld) (config : Config) (tenants : List (Option Tenant)) (nodes : List Shared) (of : AreOfWorld world config tenants nodes) where
+  -- what holds of the world's holds of these
+  of_its : (P : Config → List (Option Tenant) → List Shared → Type 0) → P world.setup.head world.setup.tenants world.nodes.nodes → P config tenants nodes
+  of_its P h =
+      subst (λ (c : Config). P c tenants nodes) (sym of.config_is)
+      (subst (λ (ts : List (Option Tenant)). P world.setup.head ts nodes) (sym of.tenants_are)
+      (subst (λ (all : List Shared). P world.setup.head world.setup.tenants all) (sym of.nodes_are) h))
+
+  pub nodes_of_world : IsCluster (shape_of world.setup.head) world.nodes.nodes → HasItsTenants world → AreNodesOfOpen config tenants nodes
+  nodes_of_world by_number has = of_its AreNodesOfOpen (record { by_number = by_number; each_tenant = has })
+
+  pub text_of_world : open_audit_of config tenants nodes ≡ audit_text (open_config world) (open_nodes world)
+  text_of_world = of_its (λ c ts all. open_audit_of c ts all ≡ audit_text (open_config world) (open_nodes world)) refl
+
+  pub formed_of_world : AreFormed (open_config_of config tenants) (open_nodes_of config tenants nodes) → AreFormed (open_config world) (open_nodes world)
+  formed_of_world formed = of_its (λ c ts all. AreFormed (open_config_of c ts) (open_nodes_of c ts all) → AreFormed (open_config world) (open_nodes world)) (λ h. h) formed

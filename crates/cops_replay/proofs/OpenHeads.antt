@@ -22,7 +22,8 @@ use Rattle.cops_types.proofs.FrontLemmas.{head_of-says}
 use Rattle.cops_types.proofs.HeadLemmas.{tenant_in-is}
 use Rattle.cops_script.proofs.HostLineLemmas.{admitted-good}
 use Rattle.cops_types.proofs.OpenSlotLemmas.{apart_left, apart_put, both_fail, left_fails, right_fails, swapped}
-use Rattle.cops_types.proofs.WordLemmas.{both}
+use Rattle.cops_types.proofs.WordLemmas.{both, and}
+use Rattle.cops_types.proofs.Elements.{Every-append}
 use Rattle.cops_model.specs.declared.acts.Act.{Act}
 use Rattle.cops_script.specs.ActLines.{act_in}
 use Rattle.cops_script.specs.Said.{Said, OfHost, admission_of, admission_unless, begins_admission, begins_closing, closing_at, closing_of, said_found, said_by, said_in, tenants_after, tenants_past}
@@ -31,84 +32,13 @@ use Rattle.cops_script.specs.Script.{said_to}
 use Rattle.cops_script.proofs.OpenSets.{may_be_given}
 use Rattle.cops_replay.specs.OpenAudits.{left_config, open_tenants, with_tenants}
 use Rattle.cops_replay.proofs.AuditTexts.{each_at}
-use Rattle.cops_replay.proofs.HeadsBack.{IsToken, head_read, parsed_token, tenant_written, written_head, written_tenant}
-
--- ---- tenants of a head
-
--- the tenant is within the limits, and has a token
-record IsFit (tenant : Tenant) : Type 0 where
-  good : IsTrue (is_tenant tenant)
-  token : IsToken tenant.token
-
-abbrev AreFit : List Tenant → Type 0
-AreFit tenants = AllByRecursion IsFit tenants
-
--- no two tenants have one name or one token
-record AreAllApart (slots : List (Option Tenant)) : Type 0 where
-  names : AreApart (λ tenant. tenant.name) slots
-  tokens : AreApart (λ tenant. tenant.token) slots
-
-record IsOfHead (config : Config) : Type 0 where
-  sizes : IsTrue (are_sizes config)
-  few : length config.tenants ≤ most_tenants
-  fit : AreFit config.tenants
-  apart : AreAllApart (map Some config.tenants)
-
-abbrev StandsIn : Front → Type 0
-StandsIn AtStart = Unit {0}
-StandsIn (Within config) = IsOfHead config
-StandsIn (Begun config) = IsOfHead config
-
-bare_stands : (config : Config) → IsTrue (are_sizes config) → config.tenants ≡ [] → IsOfHead config
-bare_stands config sizes bare = record {
-  sizes = sizes;
-  few = (let none = ap (λ (ts : List Tenant). length ts) bare in omega (arith, none));
-  fit = subst AreFit (sym bare) tt;
-  apart = subst (λ (ts : List Tenant). AreAllApart (map Some ts)) (sym bare) (record { names = tt; tokens = tt });
-}
-
-fit_more : (tenants : List Tenant) (tenant : Tenant) → AreFit tenants → IsFit tenant → AreFit (tenants ++ tenant ∷ [])
-fit_more [] tenant fit is = (is, tt)
-fit_more (first ∷ tenants) tenant fit is = (fit.0, fit_more tenants tenant fit.1 is)
-
-neither : (a b : Bool) → (not a && not b) ≡ true → (a ≡ false) × (b ≡ false)
-neither true b h = absurd cc
-neither false true h = absurd cc
-neither false false h = (refl, refl)
-
-follows_stands : (front : Front) (line : List ℕ) (next : Front) → StandsIn front → Follows front line next → StandsIn next
-follows_stands AtStart line next stands (config, is, e) = subst StandsIn (sym e) (bare_stands config is.within is.bare)
-follows_stands (Within old) line next stands (inl joins) =
-    let may = both (nat_lt (length old.tenants) 64) (is_distinct old.tenants joins.tenant) joins.may in
-    let fresh = neither (list_any (λ (other : Tenant). bytes_eq other.name joins.tenant.name) old.tenants) (list_any (λ (other : Tenant). bytes_eq other.token joins.tenant.token) old.tenants) may.1 in
-    let below : length old.tenants < 64 = (let test = may.0 in grind (arith, nat_tests)) in
-    let longer = length-append old.tenants (joins.tenant ∷ []) in
-    subst StandsIn (sym joins.after) (record {
-      sizes = stands.sizes;
-      few = omega (arith, below, longer);
-      fit = fit_more old.tenants joins.tenant stands.fit (record { good = joins.said.within; token = parsed_token joins.said.token joins.tenant.token joins.said.parses });
-      apart = record {
-        names = apart_more (λ t. t.name) old.tenants joins.tenant stands.apart.names fresh.0;
-        tokens = apart_more (λ t. t.token) old.tenants joins.tenant stands.apart.tokens fresh.1;
-      };
-    })
-follows_stands (Within old) line next stands (inr ends) = subst StandsIn (sym ends.after) stands
-follows_stands (Begun old) line next stands follows = absurd follows
-
-leads_stands : (front : Front) (lines : List (List ℕ)) (last : Front) → StandsIn front → Leads front lines last → StandsIn last
-leads_stands front [] last stands e = subst StandsIn (sym e) stands
-leads_stands front (line ∷ lines) last stands (next, follows, leads) = leads_stands next lines last (follows_stands front line next stands follows) leads
-
-of_head : (lines rest : List (List ℕ)) (config : Config) → head_of lines ≡ Whole config rest → IsOfHead config
-of_head lines rest config e =
-    let (head, is, whole) = subst (Says lines) e (head_of-says lines) in
-    leads_stands AtStart head (Begun config) tt is
+use Rattle.cops_replay.proofs.HeadsBack.{AreAllApart, AreFit, IsFit, IsOfHead, IsToken, head_leads, head_read, of_head, parsed_token, written_head}
 
 -- ---- tenants who are open
 
 abbrev IsFitThere : Option Tenant → Type 0
 IsFitThere None = Unit {0}
-IsFitThere (Some tenant) = IsFit tenant
+IsFitThere (Some tenant) = IsFit last_clock tenant
 
 -- each slot that may be given is there, who is open is fit for a head, and no two have one name or one token
 record CanStand (tenants : List (Option Tenant)) : Type 0 where
@@ -116,7 +46,7 @@ record CanStand (tenants : List (Option Tenant)) : Type 0 where
   fit : AllByRecursion IsFitThere tenants
   apart : AreAllApart tenants
 
-begun_stands : (config : Config) → IsOfHead config → CanStand (begun_with config.tenants)
+begun_stands : (config : Config) → IsOfHead last_clock config → CanStand (begun_with config.tenants)
 begun_stands config is = record {
   all = (let long = long_behind config.tenants (most_tenants - length config.tenants) in let few = is.few in omega (arith, long, few));
   fit = fit_behind config.tenants (most_tenants - length config.tenants) is.fit;
@@ -131,7 +61,7 @@ begun_stands config is = record {
     long_behind [] (suc free) = let more = long_behind [] free in omega (arith, more)
     long_behind (x ∷ tenants) free = let more = long_behind tenants free in omega (arith, more)
 
-    fit_behind : (tenants : List Tenant) (free : ℕ) → AreFit tenants → AllByRecursion IsFitThere (map Some tenants ++ replicate free None)
+    fit_behind : (tenants : List Tenant) (free : ℕ) → AreFit last_clock tenants → AllByRecursion IsFitThere (map Some tenants ++ replicate free None)
     fit_behind [] zero fit = tt
     fit_behind [] (suc free) fit = (tt, fit_behind [] free fit)
     fit_behind (x ∷ tenants) free fit = (fit.0, fit_behind tenants free fit.1)
@@ -169,7 +99,7 @@ module _ (tenants : List (Option Tenant)) (can : CanStand tenants) where
   abbrev After : Said → Type 0
   After said = CanStand (tenants_after tenants said)
 
-  unless_stands : (tenant : Tenant) (refusal : Option Fault) → IsFit tenant → admission_refusal tenants (next_slot tenants) tenant ≡ refusal → After (OfHost (admission_unless tenants tenant refusal))
+  unless_stands : (tenant : Tenant) (refusal : Option Fault) → IsFit last_clock tenant → admission_refusal tenants (next_slot tenants) tenant ≡ refusal → After (OfHost (admission_unless tenants tenant refusal))
   unless_stands tenant None fit e =
       let slot = next_slot tenants in
       let given = may_be_given tenants slot tenant e in
@@ -228,7 +158,7 @@ past_stands tenants (line ∷ lines) can = past_stands (tenants_after tenants (s
 
 -- ---- who is open, in a head of its own
 
-fit_open : (tenants : List (Option Tenant)) → AllByRecursion IsFitThere tenants → AreFit (open_tenants tenants)
+fit_open : (tenants : List (Option Tenant)) → AllByRecursion IsFitThere tenants → AreFit last_clock (open_tenants tenants)
 fit_open [] fit = tt
 fit_open (None ∷ tenants) fit = fit_open tenants fit.1
 fit_open (Some t ∷ tenants) fit = (fit.0, fit_open tenants fit.1)
@@ -252,51 +182,6 @@ module _ (text_of : Tenant → List ℕ) where
   apart_open (None ∷ tenants) apart = apart_open tenants apart
   apart_open (Some t ∷ tenants) apart = (none_open (text_of t) tenants apart.0, apart_open tenants apart.1)
 
-  -- one among them has another text than one before it
-  differs : (text : List ℕ) (front : List Tenant) (tenant : Tenant) (more : List Tenant) → list_any (has_text text_of text) (map Some (front ++ tenant ∷ more)) ≡ false → bytes_eq (text_of tenant) text ≡ false
-  differs text [] tenant more h = left_fails (bytes_eq (text_of tenant) text) (list_any (has_text text_of text) (map Some more)) h
-  differs text (x ∷ front) tenant more h = differs text front tenant more (right_fails (bytes_eq (text_of x) text) (list_any (has_text text_of text) (map Some (front ++ tenant ∷ more))) h)
-
-  fresh_behind : (front : List Tenant) (tenant : Tenant) (more : List Tenant) → AreApart text_of (map Some (front ++ tenant ∷ more)) → list_any (λ (other : Tenant). bytes_eq (text_of other) (text_of tenant)) front ≡ false
-  fresh_behind [] tenant more apart = refl
-  fresh_behind (x ∷ front) tenant more apart =
-      both_fail (bytes_eq (text_of x) (text_of tenant)) (list_any (λ (other : Tenant). bytes_eq (text_of other) (text_of tenant)) front)
-      (swapped (text_of x) (text_of tenant) ∙ differs (text_of x) front tenant more apart.0) (fresh_behind front tenant more apart.1)
-
-both_true : (a b : Bool) → a ≡ true → b ≡ true → (a && b) ≡ true
-both_true true true p q = refl
-both_true true false p q = q
-both_true false b p q = p
-
-is_new_among : (a b : Bool) → a ≡ false → b ≡ false → (not a && not b) ≡ true
-is_new_among false false p q = refl
-is_new_among false true p q = absurd cc
-is_new_among true b p q = absurd cc
-
-below_test : (n : ℕ) → n < most_tenants → nat_lt n most_tenants ≡ true
-below_test n h = grind (arith, nat_tests)
-
--- behind these tenants the others join, and then the head ends
-tenants_lead : (config : Config) (front more : List Tenant) → length (front ++ more) ≤ most_tenants → AreFit more → AreAllApart (map Some (front ++ more)) →
-    Leads (Within (with_tenants config front)) (map written_tenant more ++ begin_line ∷ []) (Begun (with_tenants config (front ++ more)))
-tenants_lead config front [] few fit apart = (Begun (with_tenants config front), inr (record { said = refl; after = refl }), ap (λ (ts : List Tenant). Begun (with_tenants config ts)) (append-nil front))
-tenants_lead config front (tenant ∷ more) few fit apart =
-    let together = append_assoc front (tenant ∷ []) more in
-    let long = length-append front (tenant ∷ more) in
-    let may = both_true (nat_lt (length front) most_tenants) (is_distinct front tenant) (below_test (length front) (omega (arith, long, few)))
-    (is_new_among (list_any (λ (other : Tenant). bytes_eq other.name tenant.name) front) (list_any (λ (other : Tenant). bytes_eq other.token tenant.token) front)
-    (fresh_behind (λ t. t.name) front tenant more apart.names) (fresh_behind (λ t. t.token) front tenant more apart.tokens)) in
-    let rest = tenants_lead config (front ++ tenant ∷ []) more (subst (λ (ts : List Tenant). length ts ≤ most_tenants) (sym together) few) fit.1 (subst (λ (ts : List Tenant). AreAllApart (map Some ts)) (sym together) apart) in (
-      Within (with_tenants config (front ++ tenant ∷ [])),
-      inl (record { tenant = tenant; said = tenant_written last_clock tenant fit.0.token fit.0.good; may = may; after = refl }),
-      subst (λ (ts : List Tenant). Leads (Within (with_tenants config (front ++ tenant ∷ []))) (map written_tenant more ++ begin_line ∷ []) (Begun (with_tenants config ts))) together rest,
-    )
-
-head_leads : (config : Config) (tenants : List Tenant) → IsTrue (are_sizes config) → length tenants ≤ most_tenants → AreFit tenants → AreAllApart (map Some tenants) →
-    Leads AtStart (written_head (with_tenants config tenants)) (Begun (with_tenants config tenants))
-head_leads config tenants sizes few fit apart =
-    (Within (with_tenants config []), (with_tenants config [], record { spelled = refl; within = sizes; bare = refl }, refl), tenants_lead config [] tenants few fit apart)
-
 -- the lines of such a head
 pub open_head : (lines rest : List (List ℕ)) (config : Config) → head_of lines ≡ Whole config rest → head_of (written_head (left_config config rest)) ≡ Whole (left_config config rest) []
 open_head lines rest config head =
@@ -318,7 +203,7 @@ lone_head lines rest config place tenant head at =
     let begun = begun_with config.tenants in
     let tenants = tenants_past begun (said_to begun rest) in
     let can = past_stands begun rest (begun_stands config is) in
-    let fit = each_at IsFit (open_tenants tenants) place tenant (fit_open tenants can.fit) at in
+    let fit = each_at (IsFit last_clock) (open_tenants tenants) place tenant (fit_open tenants can.fit) at in
     let lone = with_tenants config (tenant ∷ []) in
     let leads = head_leads config (tenant ∷ []) is.sizes (omega arith) (fit, tt) (record { names = (refl, tt); tokens = (refl, tt) }) in
     ap head_of (sym (append-nil (written_head lone))) ∙ head_read (written_head lone) [] 1 AtStart lone leads

@@ -7,7 +7,7 @@ use Rattle.std.proofs.lemmas.Bool.Decides.{nat_tests}
 use Rattle.cops_types.specs.declared.configs.Tenant.{Tenant}
 use Rattle.cops_types.specs.declared.quotas.Quota.{Quota}
 use Rattle.cops_types.specs.OpenSlots.{open_at}
-use Rattle.cops_types.proofs.WordLemmas.{both}
+use Rattle.cops_types.proofs.WordLemmas.{both, and}
 use Rattle.cops_node.specs.Parts.{Shared, is_opened_as, quota_eq, terms_at, terms_of}
 use Rattle.cops_node.specs.declared.Terms.{Terms}
 use Rattle.cops_replay.specs.OpenAudits.{HaveSlot, HaveTenants}
@@ -51,19 +51,8 @@ quotas_are a b e =
 same_number : (n : ℕ) → nat_eq n n ≡ true
 same_number n = eq-eqb n n refl
 
-pair_of : (a b : Bool) → a ≡ true → b ≡ true → (a && b) ≡ true
-pair_of true b e f = f
-pair_of false b e f = absurd cc
-
 quota_itself : (a : Quota) → quota_eq a a ≡ true
-quota_itself a =
-    pair_of (six a a) (nat_eq a.audit a.audit)
-    (pair_of (five a a) (nat_eq a.actors a.actors)
-    (pair_of (four a a) (nat_eq a.deps a.deps)
-    (pair_of (three a a) (nat_eq a.contexts a.contexts)
-    (pair_of (two a a) (nat_eq a.outbox a.outbox)
-    (pair_of (nat_eq a.versions a.versions) (nat_eq a.bytes a.bytes) (same_number a.versions) (same_number a.bytes))
-    (same_number a.outbox)) (same_number a.contexts)) (same_number a.deps)) (same_number a.actors)) (same_number a.audit)
+quota_itself a = rw (same_number a.versions, same_number a.bytes, same_number a.outbox, same_number a.contexts, same_number a.deps, same_number a.actors, same_number a.audit)
 
 -- ---- equal terms
 
@@ -74,7 +63,7 @@ terms_are tenant (Some terms) e =
     λ i. Some (record { first_clock = eqb-true terms.first_clock tenant.first_clock parts.0 i; quota = quotas_are terms.quota tenant.quota parts.1 i })
 
 opened_as_itself : (tenant : Tenant) → is_opened_as tenant (Some (terms_of tenant)) ≡ true
-opened_as_itself tenant = pair_of (nat_eq tenant.first_clock tenant.first_clock) (quota_eq tenant.quota tenant.quota) (same_number tenant.first_clock) (quota_itself tenant.quota)
+opened_as_itself tenant = and (nat_eq tenant.first_clock tenant.first_clock) (quota_eq tenant.quota tenant.quota) (same_number tenant.first_clock) (quota_itself tenant.quota)
 
 -- ---- at each node
 
@@ -90,7 +79,7 @@ each_has slot tenant (node ∷ nodes) e =
 each_tells : (slot : ℕ) (tenant : Tenant) (nodes : List Shared) → AllByRecursion (HasTerms slot tenant) nodes → list_all (λ (node : Shared). is_opened_as tenant (terms_at slot node)) nodes ≡ true
 each_tells slot tenant [] has = refl
 each_tells slot tenant (node ∷ nodes) has =
-    pair_of (is_opened_as tenant (terms_at slot node)) (list_all (λ (node : Shared). is_opened_as tenant (terms_at slot node)) nodes)
+    and (is_opened_as tenant (terms_at slot node)) (list_all (λ (node : Shared). is_opened_as tenant (terms_at slot node)) nodes)
     (ap (is_opened_as tenant) has.0 ∙ opened_as_itself tenant) (each_tells slot tenant nodes has.1)
 
 module _ (tenants : List (Option Tenant)) (nodes : List Shared) (slot : ℕ) where

@@ -5,6 +5,7 @@ use Rattle.std.specs.List.{AllByRecursion}
 use Rattle.std.specs.Str.{bytes_eq}
 use Rattle.std.proofs.lemmas.Bool.Decides.{nat_tests}
 use Rattle.std.proofs.lemmas.List.Folds.{flat_map-map}
+use Rattle.std.proofs.lemmas.List.{take_all}
 use Rattle.cops_types.specs.declared.configs.Config.{Config}
 use Rattle.cops_types.specs.declared.configs.Tenant.{Tenant}
 use Rattle.cops_types.specs.Head.{HeadReading, Whole, BadAt, head_of}
@@ -34,60 +35,31 @@ use Rattle.cops_replay.specs.ReplayParts.{seen_lines}
 use Rattle.cops_replay.specs.ReplayText.{HasLine, head_by, layout_of, longest_record}
 use Rattle.cops_replay.specs.WrittenAudits.{AreFormed, AreFormedFor, his_records}
 use Rattle.cops_replay.proofs.AuditLines.{head_known, named_at}
-use Rattle.cops_replay.proofs.AuditTexts.{take_whole}
 use Rattle.cops_replay.proofs.HeadsBack.{written_head}
 use Rattle.cops_replay.proofs.HeadTexts.{head_text_is, text_is_todays, text_reads_back}
 use Rattle.cops_replay.proofs.OpenHeads.{open_head}
 use Rattle.cops_replay.proofs.OneAnswer.{same_tenant}
 use Rattle.cops_replay.proofs.ShortLines.{lines_at}
-use Rattle.cops_replay.proofs.WrittenAudits.{his_lines}
+use Rattle.cops_replay.proofs.WrittenAudits.{his_lines, same_text}
+use Rattle.cops_replay.proofs.LineLengths.{at_most}
+use Rattle.cops_replay.proofs.OpenLists.{open_there}
 
 -- ---- the slot of a name, and its place among those that are open
 
--- a tenant of this name is open in this slot, if the list begins with the slot of number n
-record IsFoundFrom (n : ℕ) (tenants : List (Option Tenant)) (name : List ℕ) (slot : ℕ) : Type 0 where
-  place : ℕ
-  behind : ℕ
-  tenant : Tenant
-  slot_is : slot ≡ n + behind
-  there : open_at behind tenants ≡ Some tenant
-  listed : slice_get (open_tenants tenants) place ≡ Some tenant
-  placed : slice_index_or (slots_from n tenants) place 0 ≡ slot
-  named : bytes_eq tenant.name name ≡ true
+-- the open tenant of this place has this name and this slot, if the list begins with the slot of number n
+abbrev IsFoundFrom : ℕ → List (Option Tenant) → List ℕ → ℕ → Type 0
+IsFoundFrom n tenants name slot =
+    (place : ℕ) × (tenant : Tenant) × (slice_get (open_tenants tenants) place ≡ Some tenant) × (slice_index_or (slots_from n tenants) place 0 ≡ slot) × (bytes_eq tenant.name name ≡ true)
 
 found_from : (n : ℕ) (tenants : List (Option Tenant)) (name : List ℕ) (slot : ℕ) → first_from (has_name name) n tenants ≡ Some slot → IsFoundFrom n tenants name slot
 found_from n [] name slot e = absurd (let clash : ⊥ = cc in clash)
-found_from n (None ∷ tenants) name slot e =
-    let rest = found_from (n + 1) tenants name slot e in
-    record {
-      place = rest.place;
-      behind = suc rest.behind;
-      tenant = rest.tenant;
-      slot_is = (let is = rest.slot_is in omega (arith, is));
-      there = rest.there;
-      listed = rest.listed;
-      placed = rest.placed;
-      named = rest.named;
-    }
+found_from n (None ∷ tenants) name slot e = found_from (n + 1) tenants name slot e
 found_from n (Some first ∷ tenants) name slot e = by (bytes_eq first.name name) refl (λ later. found_from (n + 1) tenants name slot later) e
   where
     by : (b : Bool) → bytes_eq first.name name ≡ b → (first_from (has_name name) (n + 1) tenants ≡ Some slot → IsFoundFrom (n + 1) tenants name slot) → cond b (Some n) (first_from (has_name name) (n + 1) tenants) ≡ Some slot →
         IsFoundFrom n (Some first ∷ tenants) name slot
-    by true is others e =
-        let same : n ≡ slot = cc in
-        record { place = 0; behind = 0; tenant = first; slot_is = omega (arith, same); there = refl; listed = refl; placed = same; named = is }
-    by false is others e =
-        let rest = others e in
-        record {
-          place = suc rest.place;
-          behind = suc rest.behind;
-          tenant = rest.tenant;
-          slot_is = (let its = rest.slot_is in omega (arith, its));
-          there = rest.there;
-          listed = rest.listed;
-          placed = rest.placed;
-          named = rest.named;
-        }
+    by true is others e = let same : n ≡ slot = cc in (0, first, refl, same, is)
+    by false is others e = let (place, tenant, listed, placed, named) = others e in (suc place, tenant, listed, placed, named)
 
 -- if none is found, no open tenant has the name
 none_named : (n : ℕ) (tenants : List (Option Tenant)) (name : List ℕ) (place : ℕ) (tenant : Tenant) → first_from (has_name name) n tenants ≡ None → slice_get (open_tenants tenants) place ≡ Some tenant → bytes_eq tenant.name name ≡ false
@@ -104,9 +76,8 @@ none_named n (Some first ∷ tenants) name place tenant e at = by (bytes_eq firs
 -- who is open in the slot of a name
 pub open_found : (tenants : List (Option Tenant)) (name : List ℕ) (slot : ℕ) → open_slot_of_name tenants name ≡ Some slot → (tenant : Tenant) × (open_at slot tenants ≡ Some tenant)
 open_found tenants name slot e =
-    let found = found_from 0 tenants name slot e in
-    let behind : slot ≡ found.behind = (let is = found.slot_is in omega (arith, is)) in
-    (found.tenant, ap (λ n. open_at n tenants) behind ∙ found.there)
+    let (place, tenant, listed, placed, named) = found_from 0 tenants name slot e in
+    (tenant, ap (λ n. open_at n tenants) (sym placed) ∙ open_there tenants place tenant listed)
 
 -- ---- texts
 
@@ -119,16 +90,13 @@ own_audit_text_is config tenant nodes =
     ap (λ text. text ++ (records_text tenant.name records ++ [])) (sym (head_text_is lone))
     ∙ ap (λ text. head ++ text) (append-nil (records_text tenant.name records) ∙ sym (flat_map-map ended (record_line tenant.name) records))
 
-at_most : (n m : ℕ) → IsTrue (nat_le n m) → n ≤ m
-at_most n m h = grind (arith, nat_tests)
-
 -- no line of a record is cut
 uncut : (name : List ℕ) (records : List Record) → AllByRecursion (HasLine name) records → map (cut_line longest_record) (map (record_line name) records) ≡ map (record_line name) records
 uncut name [] all = refl
 uncut name (told ∷ records) all =
     let line = record_line name told in
     let small = at_most (length line) longest_record all.0.short in
-    let whole : cut_line longest_record line ≡ line = take_whole line (longest_record + 1) (omega (arith, small)) in
+    let whole : cut_line longest_record line ≡ line = take_all (longest_record + 1) line (omega (arith, small)) in
     λ i. whole i ∷ uncut name records all.1 i
 
 -- ---- of a script with this head
@@ -156,18 +124,17 @@ module _ (read rest : List (List ℕ)) (config : Config) (head : head_of read �
 
   pub has_place : (name : List ℕ) (slot : ℕ) (tenant : Tenant) → IsOpenIn config rest name slot tenant → HasPlace name slot tenant
   has_place name slot tenant opened =
-      let at = found_from 0 slots name slot opened.there in
-      let behind : slot ≡ at.behind = (let is = at.slot_is in omega (arith, is)) in
-      let here : open_at slot slots ≡ Some at.tenant = ap (λ n. open_at n slots) behind ∙ at.there in
-      let same : at.tenant ≡ tenant = same_value at.tenant tenant (sym here ∙ opened.tenant_is) in
-      let its : at.tenant.name ≡ name = bytes_from_test at.tenant.name name at.named in
+      let (place, other, listed, placed, its) = found_from 0 slots name slot opened.there in
+      let here : open_at slot slots ≡ Some other = ap (λ n. open_at n slots) (sym placed) ∙ open_there slots place other listed in
+      let same : other ≡ tenant = same_value other tenant (sym here ∙ opened.tenant_is) in
+      let is : other.name ≡ name = bytes_from_test other.name name its in
       let known = head_known (written_head left) [] left (open_head read rest config head) in
       record {
-        place = at.place;
-        listed = at.listed ∙ ap Some same;
-        found = ap (slot_of_name left.tenants) (sym its) ∙ named_at left.tenants at.place at.tenant known.apart at.listed;
-        named = ap (λ (t : Tenant). t.name) (sym same) ∙ its;
-        records = ap (λ n. records_of (tenant_config config tenant) (cluster_left config rest (life_left config rest n)).nodes) at.placed;
+        place = place;
+        listed = listed ∙ ap Some same;
+        found = ap (slot_of_name left.tenants) (sym is) ∙ named_at left.tenants place other known.apart listed;
+        named = ap (λ (t : Tenant). t.name) (sym same) ∙ is;
+        records = ap (λ n. records_of (tenant_config config tenant) (cluster_left config rest (life_left config rest n)).nodes) placed;
       }
 
   reads : head_by Today (lines_of (audit_text left nodes)) ≡ Whole left (lines_of text)
@@ -223,9 +190,6 @@ module _ (read rest : List (List ℕ)) (config : Config) (head : head_of read �
       not_open name (ap (λ (c : Config). slot_of_name c.tenants name) (sym same) ∙ none)
 
 -- ---- of the bytes of a script
-
-same_text : (text other : List ℕ) → Written text ≡ Written other → text ≡ other
-same_text text other e = cc
 
 part_by : (lines : List (List ℕ)) (reading : HeadReading) (name text part : List ℕ) → head_of lines ≡ reading → audit_after reading ≡ Written text → AreFormedFor reading → IsOwnAuditAfter reading name part → IsPartOf name text part
 part_by lines (Whole config rest) name text part head is formed own =

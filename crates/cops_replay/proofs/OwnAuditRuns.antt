@@ -1,5 +1,5 @@
 -- The audit of one slot of a script's world is the part of the tenant who is open there.
-use Rattle.std.proofs.lemmas.Result.{on_ok_weaker}
+use Rattle.std.proofs.lemmas.Result.{on_ok_weaker, IfErr-weaker}
 use Rattle.std.proofs.Common.{◌≡◌, ℕ, zero, suc, List, [], ◌∷◌, length, inl, inr, refl, sym, subst, ap, ◌∙◌}
 use Rattle.std.specs.Prelude.{Option, Some, None, IfErr, IfSome, OnErr, OnOk, Result, Ok, Err, is_some, slice_get, slice_index_or}
 use Rattle.std.specs.List.{AllByRecursion}
@@ -110,10 +110,10 @@ module _ (world : KeptWorld) (bytes : List ℕ) (left : IsLeftBy open_setup HasO
       subst (λ reading. IsOwnAuditAfter reading name (slot_audit world slot tenant)) (sym left.head)
       (record { slot = slot; tenant = tenant; opened = opened_in name slot tenant at; text_is = slot_text slot tenant at.tenant_is })
 
-  writes_own : (name : List ℕ) (old_contents new_contents : Option (List ℕ)) → WritesSlot world name old_contents new_contents → WritesOwnAudit name bytes old_contents new_contents
+  pub writes_own : (name : List ℕ) (old_contents new_contents : Option (List ℕ)) → WritesSlot world name old_contents new_contents → WritesOwnAudit name bytes old_contents new_contents
   writes_own name old_contents new_contents w = (slot_audit world w.slot w.tenant, own_audit name w.slot w.tenant w.opened, w.written)
 
-  writes_own_front : (name : List ℕ) (old_contents new_contents : Option (List ℕ)) → WritesSlotFront world name old_contents new_contents → WritesOwnAuditFront name bytes old_contents new_contents
+  pub writes_own_front : (name : List ℕ) (old_contents new_contents : Option (List ℕ)) → WritesSlotFront world name old_contents new_contents → WritesOwnAuditFront name bytes old_contents new_contents
   writes_own_front name old_contents new_contents (inl kept) = inl kept
   writes_own_front name old_contents new_contents (inr (slot, tenant, at, written)) = inr (slot_audit world slot tenant, own_audit name slot tenant at, written)
 
@@ -144,7 +144,7 @@ module _ (world : KeptWorld) (bytes : List ℕ) (left : IsLeftBy open_setup HasO
       (subst (λ (records : List Record). IsReplayOf tenant.name (slot_audit world slot tenant) (replayed_text (Same (length records)))) its says)
 
   -- so a replay of the part, whichever slot it is that has the name
-  says_part : (name : List ℕ) (old_contents new_contents : Option (List ℕ)) → WritesSlot world name old_contents new_contents → AllSame world → (part : List ℕ) → IsOwnAuditOf name bytes part → SaysSameOwn (head_of (lines_of bytes)) name part
+  pub says_part : (name : List ℕ) (old_contents new_contents : Option (List ℕ)) → WritesSlot world name old_contents new_contents → AllSame world → (part : List ℕ) → IsOwnAuditOf name bytes part → SaysSameOwn (head_of (lines_of bytes)) name part
   says_part name old_contents new_contents w same part own =
       subst (λ reading. SaysSameOwn reading name part) (sym left.head) (λ slot tenant opened.
       let its : IsOwnAudit config lines name part = subst (λ reading. IsOwnAuditAfter reading name part) left.head own in
@@ -170,55 +170,19 @@ opened_at world tenants name slot tenant same found has = record {
 
 -- ---- if the bytes of the reader may be known
 
-module _ (world : KeptWorld) (name : List ℕ) (old_contents new_contents : Option (List ℕ)) where
-  pub own_written : (known : Option (List ℕ)) → IfSome known (λ bytes. IsLeftBy open_setup HasOpenCluster bytes world) → WritesSlot world name old_contents new_contents →
-      IfSome known (λ bytes. WritesOwnAudit name bytes old_contents new_contents)
-  own_written None left w = tt
-  own_written (Some bytes) left w = writes_own world bytes left name old_contents new_contents w
-
-  pub own_front_written : (known : Option (List ℕ)) → IfSome known (λ bytes. IsLeftBy open_setup HasOpenCluster bytes world) → WritesSlotFront world name old_contents new_contents →
-      IfSome known (λ bytes. WritesOwnAuditFront name bytes old_contents new_contents)
-  own_front_written None left w = tt
-  own_front_written (Some bytes) left w = writes_own_front world bytes left name old_contents new_contents w
-
-  pub own_says_same : (known : Option (List ℕ)) → IfSome known (λ bytes. IsLeftBy open_setup HasOpenCluster bytes world) → WritesSlot world name old_contents new_contents → AllSame world →
-      IfSome known (λ bytes. (part : List ℕ) → IsOwnAuditOf name bytes part → SaysSameOwn (head_of (lines_of bytes)) name part)
-  own_says_same None left w same = tt
-  own_says_same (Some bytes) left w same = says_part world bytes left name old_contents new_contents w same
-
--- of a result
-module _ (world : KeptWorld) (name : List ℕ) (old_contents new_contents : Option (List ℕ)) (result : Result (Unit {0}) (RunFault PartRefusal)) (known : Option (List ℕ)) (left : IfSome known (λ bytes. IsLeftBy open_setup HasOpenCluster bytes world)) where
-  pub all_own_written : OnOk result (WritesSlot world name old_contents new_contents) → OnOk result (IfSome known (λ bytes. WritesOwnAudit name bytes old_contents new_contents))
-  all_own_written w = on_ok_weaker result (own_written world name old_contents new_contents known left) w
-
-  pub some_own_written : OnErr result (WritesSlotFront world name old_contents new_contents) → OnErr result (IfSome known (λ bytes. WritesOwnAuditFront name bytes old_contents new_contents))
-  some_own_written w = by result w
-    where
-      by : (r : Result (Unit {0}) (RunFault PartRefusal)) → OnErr r (WritesSlotFront world name old_contents new_contents) → OnErr r (IfSome known (λ bytes. WritesOwnAuditFront name bytes old_contents new_contents))
-      by (Ok done) h = tt
-      by (Err why) h = own_front_written world name old_contents new_contents known left h
-
-  pub all_own_say_same : OnOk result (WritesSlot world name old_contents new_contents) → OnOk result (AllSame world) →
-      OnOk result (IfSome known (λ bytes. (part : List ℕ) → IsOwnAuditOf name bytes part → SaysSameOwn (head_of (lines_of bytes)) name part))
-  all_own_say_same w same = by result w same
-    where
-      by : (r : Result (Unit {0}) (RunFault PartRefusal)) → OnOk r (WritesSlot world name old_contents new_contents) → OnOk r (AllSame world) →
-          OnOk r (IfSome known (λ bytes. (part : List ℕ) → IsOwnAuditOf name bytes part → SaysSameOwn (head_of (lines_of bytes)) name part))
-      by (Ok done) h k = own_says_same world name old_contents new_contents known left h k
-      by (Err why) h k = tt
+pub both_ok : {T E P Q R : Type 0} (r : Result T E) → (P → Q → R) → OnOk r P → OnOk r Q → OnOk r R
+both_ok (Ok x) h p q = h p q
+both_ok (Err e) h p q = tt
 
 pub own_lacks : (world : KeptWorld) (name : List ℕ) (known : Option (List ℕ)) → IfSome known (λ bytes. IsLeftBy open_setup HasOpenCluster bytes world) →
     (why : RunFault PartRefusal) → IfRunRefused why (LacksTenant world name) → IfRunRefused why (λ refusal. IfSome known (λ bytes. RefusesOwnAuditOf name bytes refusal))
 own_lacks world name None left (Refused refusal) lacks = tt
 own_lacks world name (Some bytes) left (Refused refusal) lacks = lacks_own world bytes left name refusal lacks
-own_lacks world name known left OutOfMemory lacks = tt
-own_lacks world name known left ReadFault lacks = tt
-own_lacks world name known left WriteFault lacks = tt
+own_lacks world name known left why lacks = tt
 
 pub err_refused : (world : KeptWorld) (name : List ℕ) (known : Option (List ℕ)) → IfSome known (λ bytes. IsLeftBy open_setup HasOpenCluster bytes world) →
     (result : Result (Unit {0}) (RunFault PartRefusal)) → IfErr result (λ why. IfRunRefused why (LacksTenant world name)) → IfErr result (λ why. IfRunRefused why (λ refusal. IfSome known (λ bytes. RefusesOwnAuditOf name bytes refusal)))
-err_refused world name known left (Ok done) lacks = tt
-err_refused world name known left (Err why) lacks = own_lacks world name known left why lacks
+err_refused world name known left result lacks = IfErr-weaker result _ _ (own_lacks world name known left) lacks
 
 -- ---- a script that is refused
 
@@ -235,15 +199,11 @@ bad_refused name known fault why is bad = subst (λ w. IfRunRefused w (λ refusa
   where
     by : (fault : RunFault BadHead) → IfRunRefused fault (HasBad known) → IfRunRefused (as_part_fault fault) (λ refusal. IfSome known (λ bytes. RefusesOwnAuditOf name bytes refusal))
     by (Refused bad) h = bad_is name known bad h
-    by OutOfMemory h = tt
-    by ReadFault h = tt
-    by WriteFault h = tt
+    by fault h = tt
 
 pub nothing_kept : (contents : Option (List ℕ)) (why : RunFault PartRefusal) → IfRunRefused why (λ refusal. Keeps contents contents)
 nothing_kept contents (Refused refusal) = kept contents
-nothing_kept contents OutOfMemory = tt
-nothing_kept contents ReadFault = tt
-nothing_kept contents WriteFault = tt
+nothing_kept contents why = tt
 
 pub no_own_front : (name : List ℕ) (known contents : Option (List ℕ)) → IfSome known (λ bytes. WritesOwnAuditFront name bytes contents contents)
 no_own_front name None contents = tt
@@ -251,16 +211,12 @@ no_own_front name (Some bytes) contents = inl (kept contents)
 
 -- a read fault, or a write fault, was one of the script
 read_is : (fault : RunFault BadHead) → as_part_fault fault ≡ ReadFault → fault ≡ ReadFault
-read_is (Refused bad) e = absurd (let no : ⊥ = cc in no)
-read_is OutOfMemory e = absurd (let no : ⊥ = cc in no)
 read_is ReadFault e = refl
-read_is WriteFault e = absurd (let no : ⊥ = cc in no)
+read_is fault e = absurd (let no : ⊥ = cc in no)
 
 write_is : (fault : RunFault BadHead) → as_part_fault fault ≡ WriteFault → fault ≡ WriteFault
-write_is (Refused bad) e = absurd (let no : ⊥ = cc in no)
-write_is OutOfMemory e = absurd (let no : ⊥ = cc in no)
-write_is ReadFault e = absurd (let no : ⊥ = cc in no)
 write_is WriteFault e = refl
+write_is fault e = absurd (let no : ⊥ = cc in no)
 
 abbrev pub failed : RunFault PartRefusal → Result (Unit {0}) (RunFault PartRefusal)
 failed why = Err why
@@ -273,10 +229,3 @@ was_read fault why is e = read_is fault (sym is ∙ same_fault why ReadFault e)
 
 pub was_write : (fault : RunFault BadHead) (why : RunFault PartRefusal) → why ≡ as_part_fault fault → failed why ≡ failed WriteFault → fault ≡ WriteFault
 was_write fault why is e = write_is fault (sym is ∙ same_fault why WriteFault e)
-
--- ---- each record of a whole audit has a form
-
-pub all_formed_for : (world : KeptWorld) (known : Option (List ℕ)) → IfSome known (λ bytes. IsLeftBy open_setup HasOpenCluster bytes world) → AreFormed (open_config world) (open_nodes world) →
-    IfSome known (λ bytes. AreFormedFor (head_of (lines_of bytes)))
-all_formed_for world None left formed = tt
-all_formed_for world (Some bytes) left formed = formed_for world bytes left formed

@@ -111,8 +111,3 @@ pub failed_at_last : (r : Result (Unit {0}) RequestError) → IfErr r (λ error.
 failed_at_last (Ok done) h = tt
 failed_at_last (Err OutOfMemory) h = tt
 failed_at_last (Err (Refused fault)) h = cc
-
-pub risen_at_last : (r : Result (Unit {0}) RequestError) (P : Type 0) → OnErr r P → OnRefusal r P
-risen_at_last (Ok done) P h = tt
-risen_at_last (Err OutOfMemory) P h = tt
-risen_at_last (Err (Refused fault)) P h = h

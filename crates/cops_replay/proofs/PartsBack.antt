@@ -4,6 +4,7 @@ use Rattle.std.specs.Prelude.{IsTrue, Option, Some, None, flat_map, slice_get}
 use Rattle.std.specs.List.{AllByRecursion}
 use Rattle.std.specs.Option.{option_and_then}
 use Rattle.std.specs.Str.{bytes_eq}
+use Rattle.std.proofs.lemmas.List.{take_all, length-take}
 use Rattle.cops_types.specs.declared.configs.Config.{Config}
 use Rattle.cops_types.specs.declared.configs.Tenant.{Tenant}
 use Rattle.cops_types.specs.Head.{Front, AtStart, Within, Begun, Ends, Joins, Whole, BadAt, head_with, is_begun, with_tenant}
@@ -17,6 +18,7 @@ use Rattle.cops_types.specs.Words.{first_word, newline}
 use Rattle.cops_types.proofs.FrontLemmas.{front_after-is}
 use Rattle.cops_types.proofs.HeadLemmas.{tenant_fits, tenant_in_to-finds}
 use Rattle.cops_types.proofs.WordLemmas.{Lacks, bytes_from_test, lacks_from_test, same_bytes, same_value}
+use Rattle.cops_types.proofs.Elements.{Every-append}
 use Rattle.cops_model.specs.MainTheorem.{with_tenant_alone}
 use Rattle.cops_script.proofs.ApartTenants.{found_at, short_name}
 use Rattle.cops_replay.specs.declared.layouts.Layout.{Layout}
@@ -29,112 +31,45 @@ use Rattle.cops_replay.specs.OwnParts.{IsPartOf, layout_lines, lone_head_lines}
 use Rattle.cops_replay.specs.ReplayParts.{HasPart, seen_lines}
 use Rattle.cops_replay.specs.FileHeads.{front_by}
 use Rattle.cops_replay.specs.ReplayText.{IsReplayOf, RefusesReplayOf, head_by, layout_of, longest_record}
-use Rattle.cops_replay.proofs.AuditHeads.{bad_end, bad_first, read_once, read_whole, reading_by}
-use Rattle.cops_replay.proofs.HeadsBack.{IsToken, cluster_lacks, lines_of-lack, lines_of-lines, lines_of-more, parsed_token, tenant_lacks, tenant_written, written_tenant}
-use Rattle.cops_replay.proofs.OldFronts.{OldJoins, old_front_after-is}
+use Rattle.cops_replay.proofs.AuditHeads.{follows_by, head_holds, last_in, last_small, read_once, read_whole, reading_by}
+use Rattle.cops_replay.proofs.HeadsBack.{IsFit, IsOfHead, StandsIn, cluster_lacks, follows_stands, lines_of-lack, lines_of-lines, lines_of-more, tenant_lacks, tenant_written, written_tenant}
+use Rattle.cops_replay.proofs.OldFronts.{FollowsTo}
 use Rattle.cops_replay.proofs.OneAnswer.{refused_alike, replayed_alike}
 use Rattle.cops_replay.proofs.RecordRuns.{same_own}
+use Rattle.cops_replay.proofs.AuditTexts.{each_at}
 
 -- ---- what a head that was read has
 
--- the greatest first clock in a head
-abbrev last_in : Layout → ℕ
-last_in Today = last_clock
-last_in Early = last_old_clock
-
-last_small : (layout : Layout) → last_in layout < 2 ^ 64
-last_small Today = omega arith
-last_small Early = omega arith
-
-record IsGood (layout : Layout) (tenant : Tenant) : Type 0 where
-  token : IsToken tenant.token
-  within : IsTrue (is_tenant_to (last_in layout) tenant)
-
+-- it is one of the layout, and this is its first line
 record AreGood (layout : Layout) (config : Config) : Type 0 where
-  sizes : IsTrue (are_sizes config)
+  stands : IsOfHead (last_in layout) config
   starts : front_by layout AtStart (cluster_line config) ≡ Some (Within (with_tenants config []))
-  tenants : AllByRecursion (IsGood layout) config.tenants
 
 abbrev IsGoodFront : Layout → Front → Type 0
 IsGoodFront layout AtStart = Unit {0}
 IsGoodFront layout (Within config) = AreGood layout config
 IsGoodFront layout (Begun config) = AreGood layout config
 
-all_push : {X : Type 0} (P : X → Type 0) (xs : List X) (x : X) → AllByRecursion P xs → P x → AllByRecursion P (xs ++ x ∷ [])
-all_push P [] x all one = (one, tt)
-all_push P (y ∷ xs) x all one = (all.0, all_push P xs x all.1 one)
-
-all_at : {X : Type 0} (P : X → Type 0) (xs : List X) (i : ℕ) (x : X) → AllByRecursion P xs → slice_get xs i ≡ Some x → P x
-all_at P [] i x all at = absurd (let clash : ⊥ = cc in clash)
-all_at P (y ∷ xs) zero x all at = subst P (same_value y x at) all.0
-all_at P (y ∷ xs) (suc i) x all at = all_at P xs i x all.1 at
-
-good_start : (layout : Layout) (line : List ℕ) (config : Config) (next : Front) → IsClusterLine line config → next ≡ Within config → front_by layout AtStart line ≡ Some next → IsGoodFront layout next
-good_start layout line config next is after e =
-    subst (IsGoodFront layout) (sym after) (record {
-      sizes = is.within;
-      starts = ap (front_by layout AtStart) (sym is.spelled) ∙ e ∙ ap Some after ∙ ap (λ tenants. Some (Within (with_tenants config tenants))) is.bare;
-      tenants = subst (AllByRecursion (IsGood layout)) (sym is.bare) tt;
-    })
-
-good_joined : (layout : Layout) (config : Config) (tenant : Tenant) → AreGood layout config → IsGood layout tenant → AreGood layout (with_tenant config tenant)
-good_joined layout config tenant g t = record { sizes = g.sizes; starts = g.starts; tenants = all_push (IsGood layout) config.tenants tenant g.tenants t }
-
-good_today : (config : Config) (line : List ℕ) (next : Front) → AreGood Today config → Joins config line next ⊎ Ends config line next → IsGoodFront Today next
-good_today config line next g (inl joins) =
-    subst (IsGoodFront Today) (sym joins.after) (good_joined Today config joins.tenant g (record { token = parsed_token joins.said.token joins.tenant.token joins.said.parses; within = joins.said.within }))
-good_today config line next g (inr ends) = subst (IsGoodFront Today) (sym ends.after) g
-
-good_old : (layout : Layout) → last_in layout ≡ last_old_clock → (config : Config) (line : List ℕ) (next : Front) → AreGood layout config → OldJoins config line next ⊎ Ends config line next → IsGoodFront layout next
-good_old layout last config line next g (inl joins) =
-    subst (IsGoodFront layout) (sym joins.after) (good_joined layout config joins.tenant g (record {
-      token = parsed_token joins.said.token joins.tenant.token joins.said.parses;
-      within = subst (λ n. IsTrue (is_tenant_to n joins.tenant)) (sym last) joins.said.within;
-    }))
-good_old layout last config line next g (inr ends) = subst (IsGoodFront layout) (sym ends.after) g
-
 good_next : (layout : Layout) (front : Front) (line : List ℕ) (next : Front) → IsGoodFront layout front → front_by layout front line ≡ Some next → IsGoodFront layout next
-good_next Today AtStart line next g e = let f = front_after-is AtStart line next e in good_start Today line f.0 next f.1 f.2 e
-good_next Today (Within config) line next g e = good_today config line next g (front_after-is (Within config) line next e)
-good_next Today (Begun config) line next g e = absurd (let clash : ⊥ = cc in clash)
-good_next Early AtStart line next g e = let f = old_front_after-is AtStart line next e in good_start Early line f.0 next f.1 f.2 e
-good_next Early (Within config) line next g e = good_old Early refl config line next g (old_front_after-is (Within config) line next e)
-good_next Early (Begun config) line next g e = absurd (let clash : ⊥ = cc in clash)
+good_next layout AtStart line next g e =
+    let (config, is, after) = follows_by layout AtStart line next e in
+    let stands = follows_stands (last_in layout) AtStart line (Within config) tt (config, is, refl) in
+    subst (IsGoodFront layout) (sym after) (record {
+      stands = stands;
+      starts = ap (front_by layout AtStart) (sym is.spelled) ∙ e ∙ ap Some after ∙ ap (λ tenants. Some (Within (with_tenants config tenants))) is.bare;
+    })
+good_next layout (Within config) line next g e = by (follows_by layout (Within config) line next e)
+  where
+    by : FollowsTo (last_in layout) (Within config) line next → IsGoodFront layout next
+    by (inl joins) = subst (IsGoodFront layout) (sym joins.after) (record { stands = subst (StandsIn (last_in layout)) joins.after (follows_stands (last_in layout) (Within config) line next g.stands (inl joins)); starts = g.starts })
+    by (inr ends) = subst (IsGoodFront layout) (sym ends.after) g
+good_next layout (Begun config) line next g e = absurd (follows_by layout (Begun config) line next e)
 
 -- what holds of all lines holds of those after the head
-record IsGoodHead (P : List ℕ → Type 0) (layout : Layout) (config : Config) (rest : List (List ℕ)) : Type 0 where
-  good : AreGood layout config
-  kept : AllByRecursion P rest
-
-module _ (P : List ℕ → Type 0) (layout : Layout) (config : Config) (rest : List (List ℕ)) where
-  good_whole : (found : Config) (lines : List (List ℕ)) (number : ℕ) → AreGood layout found → AllByRecursion P lines → reading_by layout lines number (Begun found) ≡ Whole config rest → IsGoodHead P layout config rest
-  good_whole found lines number g all e =
-      let whole : Whole found lines ≡ Whole config rest = sym (read_whole layout lines number found) ∙ e in
-      let its : found ≡ config = cc in
-      let after : lines ≡ rest = cc in
-      record { good = subst (AreGood layout) its g; kept = subst (AllByRecursion P) after all }
-
-  no_end : (number : ℕ) (front : Front) → is_begun front ≡ false → reading_by layout [] number front ≡ Whole config rest → IsGoodHead P layout config rest
-  no_end number front still e = let bad : BadAt number ≡ Whole config rest = sym (bad_end layout front number still) ∙ e in absurd (let clash : ⊥ = cc in clash)
-
-  by_line : (line : List ℕ) (lines : List (List ℕ)) (number : ℕ) (front : Front) → is_begun front ≡ false → IsGoodFront layout front → reading_by layout (line ∷ lines) number front ≡ Whole config rest →
-      ((next : Front) → IsGoodFront layout next → reading_by layout lines (number + 1) next ≡ Whole config rest → IsGoodHead P layout config rest) →
-      (found : Option Front) → front_by layout front line ≡ found → IsGoodHead P layout config rest
-  by_line line lines number front still g e again None is = let bad : BadAt number ≡ Whole config rest = sym (bad_first layout front number line lines still is) ∙ e in absurd (let clash : ⊥ = cc in clash)
-  by_line line lines number front still g e again (Some next) is = again next (good_next layout front line next g is) (sym (read_once layout front number line lines next still is) ∙ e)
-
-  good_read : (lines : List (List ℕ)) (number : ℕ) (front : Front) → IsGoodFront layout front → AllByRecursion P lines → reading_by layout lines number front ≡ Whole config rest → IsGoodHead P layout config rest
-  good_read [] number AtStart g all e = no_end number AtStart refl e
-  good_read [] number (Within found) g all e = no_end number (Within found) refl e
-  good_read [] number (Begun found) g all e = good_whole found [] number g all e
-  good_read (line ∷ lines) number AtStart g all e = by_line line lines number AtStart refl g e (λ next h r. good_read lines (number + 1) next h all.1 r) (front_by layout AtStart line) refl
-  good_read (line ∷ lines) number (Within found) g all e = by_line line lines number (Within found) refl g e (λ next h r. good_read lines (number + 1) next h all.1 r) (front_by layout (Within found) line) refl
-  good_read (line ∷ lines) number (Begun found) g all e = good_whole found (line ∷ lines) number g all e
-
-good_head : (P : List ℕ → Type 0) (layout : Layout) (lines : List (List ℕ)) (config : Config) (rest : List (List ℕ)) → AllByRecursion P lines → head_by layout lines ≡ Whole config rest → IsGoodHead P layout config rest
+good_head : (P : List ℕ → Type 0) (layout : Layout) (lines : List (List ℕ)) (config : Config) (rest : List (List ℕ)) → AllByRecursion P lines → head_by layout lines ≡ Whole config rest → AreGood layout config × AllByRecursion P rest
 good_head P Today [] config rest all e = absurd (let clash : ⊥ = cc in clash)
-good_head P Today (line ∷ lines) config rest all e = good_read P Today config rest lines 2 AtStart tt all.1 e
-good_head P Early lines config rest all e = good_read P Early config rest lines 1 AtStart tt all e
+good_head P Today (line ∷ lines) config rest all e = head_holds Today (IsGoodFront Today) P (good_next Today) config rest lines 2 AtStart tt all.1 e
+good_head P Early lines config rest all e = head_holds Early (IsGoodFront Early) P (good_next Early) config rest lines 1 AtStart tt all e
 
 -- ---- the head of a part is read back
 
@@ -147,17 +82,17 @@ begins_by Today config = refl
 begins_by Early config = refl
 
 module _ (config : Config) (tenant : Tenant) (others : List (List ℕ)) where
-  lone_read : (layout : Layout) (number : ℕ) → AreGood layout config → IsGood layout tenant → reading_by layout (lone_head_lines config tenant ++ others) number AtStart ≡ Whole (with_tenant_alone config tenant) others
+  lone_read : (layout : Layout) (number : ℕ) → AreGood layout config → IsFit (last_in layout) tenant → reading_by layout (lone_head_lines config tenant ++ others) number AtStart ≡ Whole (with_tenant_alone config tenant) others
   lone_read layout number g t =
       let alone = with_tenant_alone config tenant in
       let bare = with_tenants config [] in
-      let found = tenant_in_to-finds (last_in layout) (last_small layout) (written_tenant tenant) tenant (tenant_written (last_in layout) tenant t.token t.within) in
+      let found = tenant_in_to-finds (last_in layout) (last_small layout) (written_tenant tenant) tenant (tenant_written (last_in layout) tenant t.token t.good) in
       read_once layout AtStart number (cluster_line config) (written_tenant tenant ∷ begin_line ∷ others) (Within bare) refl g.starts
       ∙ read_once layout (Within bare) (number + 1) (written_tenant tenant) (begin_line ∷ others) (Within alone) refl (joins_by layout config tenant found)
       ∙ read_once layout (Within alone) (number + 1 + 1) begin_line others (Begun alone) refl (begins_by layout alone)
       ∙ read_whole layout others (number + 1 + 1 + 1) alone
 
-  head_back : (layout : Layout) → AreGood layout config → IsGood layout tenant → head_by layout ((layout_lines layout ++ lone_head_lines config tenant) ++ others) ≡ Whole (with_tenant_alone config tenant) others
+  head_back : (layout : Layout) → AreGood layout config → IsFit (last_in layout) tenant → head_by layout ((layout_lines layout ++ lone_head_lines config tenant) ++ others) ≡ Whole (with_tenant_alone config tenant) others
   head_back Today g t = lone_read Today 2 g t
   head_back Early g t = lone_read Early 1 g t
 
@@ -165,10 +100,10 @@ module _ (config : Config) (tenant : Tenant) (others : List (List ℕ)) where
   layout_back Today = ap (λ b. cond b Today Early) (same_bytes layout_line)
   layout_back Early = refl
 
-lone_lacks : (layout : Layout) (config : Config) (tenant : Tenant) → AreGood layout config → IsGood layout tenant → AllByRecursion (Lacks newline) (lone_head_lines config tenant)
-lone_lacks layout config tenant g t = (cluster_lacks config g.sizes, (tenant_lacks (last_in layout) (last_small layout) tenant t.within, (lacks_from_test newline begin_line refl, tt)))
+lone_lacks : (layout : Layout) (config : Config) (tenant : Tenant) → AreGood layout config → IsFit (last_in layout) tenant → AllByRecursion (Lacks newline) (lone_head_lines config tenant)
+lone_lacks layout config tenant g t = (cluster_lacks config g.stands.sizes, (tenant_lacks (last_in layout) (last_small layout) tenant t.good, (lacks_from_test newline begin_line refl, tt)))
 
-head_lacks : (layout : Layout) (config : Config) (tenant : Tenant) → AreGood layout config → IsGood layout tenant → AllByRecursion (Lacks newline) (layout_lines layout ++ lone_head_lines config tenant)
+head_lacks : (layout : Layout) (config : Config) (tenant : Tenant) → AreGood layout config → IsFit (last_in layout) tenant → AllByRecursion (Lacks newline) (layout_lines layout ++ lone_head_lines config tenant)
 head_lacks Today config tenant g t = (lacks_from_test newline layout_line refl, lone_lacks Today config tenant g t)
 head_lacks Early config tenant g t = lone_lacks Early config tenant g t
 
@@ -181,10 +116,7 @@ lacks_take s (suc n) [] h = tt
 lacks_take s (suc n) (x ∷ xs) h = (h.0, lacks_take s n xs h.1)
 
 take_twice : (n : ℕ) (xs : List ℕ) → take n (take n xs) ≡ take n xs
-take_twice zero [] = refl
-take_twice zero (x ∷ xs) = refl
-take_twice (suc n) [] = refl
-take_twice (suc n) (x ∷ xs) = ap (λ l. x ∷ l) (take_twice n xs)
+take_twice n xs = take_all n (take n xs) (omega (arith, length-take n xs))
 
 module _ (name : List ℕ) where
   seen_lack : (lines : List (List ℕ)) → AllByRecursion (Lacks newline) lines → AllByRecursion (Lacks newline) (seen_lines name lines)
@@ -221,11 +153,11 @@ module _ (name bytes part : List ℕ) (p : IsPartOf name bytes part) where
   abbrev own : List (List ℕ)
   own = seen_lines name p.audit.records
 
-  good : IsGoodHead (Lacks newline) layout p.audit.config p.audit.records
+  good : AreGood layout p.audit.config × AllByRecursion (Lacks newline) p.audit.records
   good = good_head (Lacks newline) layout (lines_of bytes) p.audit.config p.audit.records (lines_of-lack bytes) p.audit.head
 
-  its : IsGood layout p.audit.tenant
-  its = all_at (IsGood layout) p.audit.config.tenants p.audit.slot p.audit.tenant good.good.tenants p.audit.tenant_is
+  its : IsFit (last_in layout) p.audit.tenant
+  its = each_at (IsFit (last_in layout)) p.audit.config.tenants p.audit.slot p.audit.tenant good.0.stands.fit p.audit.tenant_is
 
   named : bytes_eq p.audit.tenant.name name ≡ true
   named =
@@ -234,13 +166,13 @@ module _ (name bytes part : List ℕ) (p : IsPartOf name bytes part) where
 
   short : length name ≤ 16
   short =
-      let fits = tenant_fits (last_in layout) (last_small layout) p.audit.tenant its.within in
+      let fits = tenant_fits (last_in layout) (last_small layout) p.audit.tenant its.good in
       subst (λ n. length n ≤ 16) (bytes_from_test p.audit.tenant.name name named) (short_name p.audit.tenant.name fits.name)
 
   part_lines : lines_of part ≡ (layout_lines layout ++ lone_head_lines p.audit.config p.audit.tenant) ++ own
   part_lines =
-      ap lines_of p.text_is ∙ lines_of-more (layout_lines layout ++ lone_head_lines p.audit.config p.audit.tenant) (flat_map ended own) (head_lacks layout p.audit.config p.audit.tenant good.good its)
-      ∙ ap (λ lines. (layout_lines layout ++ lone_head_lines p.audit.config p.audit.tenant) ++ lines) (lines_of-lines own (seen_lack name p.audit.records good.kept))
+      ap lines_of p.text_is ∙ lines_of-more (layout_lines layout ++ lone_head_lines p.audit.config p.audit.tenant) (flat_map ended own) (head_lacks layout p.audit.config p.audit.tenant good.0 its)
+      ∙ ap (λ lines. (layout_lines layout ++ lone_head_lines p.audit.config p.audit.tenant) ++ lines) (lines_of-lines own (seen_lack name p.audit.records good.1))
 
   of_file : HasPart name bytes layout (tenant_config p.audit.config p.audit.tenant) own
   of_file = record { layout_is = refl; audit = p.audit; config_is = refl; own_is = refl }
@@ -253,7 +185,7 @@ module _ (name bytes part : List ℕ) (p : IsPartOf name bytes part) where
       records = own;
       slot = 0;
       tenant = p.audit.tenant;
-      head = ap (head_by layout) part_lines ∙ head_back p.audit.config p.audit.tenant own layout good.good its;
+      head = ap (head_by layout) part_lines ∙ head_back p.audit.config p.audit.tenant own layout good.0 its;
       there = first_found name p.audit.tenant named;
       tenant_is = refl;
     };

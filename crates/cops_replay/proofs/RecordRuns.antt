@@ -5,11 +5,13 @@ use Rattle.std.specs.List.{list_any}
 use Rattle.std.specs.Option.{is_none, option_map}
 use Rattle.std.specs.Str.{bytes_eq}
 use Rattle.std.proofs.lemmas.Bool.Decides.{nat_tests}
+use Rattle.std.proofs.lemmas.List.{take_all}
 use Rattle.cops_types.specs.Counts.{counted}
 use Rattle.cops_script.specs.LineRules.{Run}
 use Rattle.cops_types.specs.Lines.{cut_line}
 use Rattle.cops_types.specs.TenantConfig.{TenantConfig}
 use Rattle.cops_types.specs.Words.{first_word, newline}
+use Rattle.cops_types.proofs.Elements.{or_right}
 use Rattle.cops_model.specs.SoloNode.{SoloNode}
 use Rattle.cops_script.proofs.CutLemmas.{same_first_at}
 use Rattle.cops_replay.specs.declared.layouts.Layout.{Layout}
@@ -25,13 +27,13 @@ use Rattle.cops_replay.specs.Replayings.{Differs, IsReplayedLine, Passes, Standi
 use Rattle.cops_replay.specs.ReplayRules.{ReplaysOwn, replay_lines}
 use Rattle.cops_replay.specs.ReplayText.{FindsBy, is_great_in, longest_record, replayed_text, told_number, told_of}
 use Rattle.cops_replay.specs.Replays.{AreLoneNodes}
-use Rattle.cops_replay.proofs.AuditHeads.{by_test, take_all}
+use Rattle.cops_replay.proofs.AuditHeads.{by_test}
 
 -- ---- lines, as they are cut
 
 -- a line that is no longer is seen whole, and one that is longer is still too long
 module _ {A : Type 0} (seen : Bool → List ℕ → A) (none : A) (long : (line : List ℕ) → seen false line ≡ none) where
-  same_cut : (line : List ℕ) → seen (nat_le (length (cut_line longest_record line)) longest_record) (cut_line longest_record line) ≡ seen (nat_le (length line) longest_record) line
+  pub same_cut : (line : List ℕ) → seen (nat_le (length (cut_line longest_record line)) longest_record) (cut_line longest_record line) ≡ seen (nat_le (length line) longest_record) line
   same_cut line = by_test (nat_le (length line) (longest_record + 1))
       (λ is. let short : length line ≤ longest_record + 1 = grind (arith, nat_tests) in ap (λ l. seen (nat_le (length l) longest_record) l) (take_all (longest_record + 1) line short))
       (λ is.
@@ -54,7 +56,7 @@ pub same_own : (name line : List ℕ) → length name ≤ 16 → bytes_eq (first
 same_own name line short = same_first_at longest_record (omega arith) name line short
 
 -- one line more
-capped_more : (n : ℕ) → counted (told_number n) ≡ told_number (n + 1)
+pub capped_more : (n : ℕ) → counted (told_number n) ≡ told_number (n + 1)
 capped_more n = grind arith
 
 -- the result, as it is written
@@ -116,12 +118,8 @@ module _ (name : List ℕ) (layout : Layout) where
   pub any_great : (passed : List (List ℕ)) (line : List ℕ) (rest : List (List ℕ)) → bytes_eq (first_word line) name ≡ true → is_great_in layout line ≡ true → list_any (is_great_in layout) (alone_lines name (passed ++ line ∷ rest)) ≡ true
   any_great [] line rest own great = ap (list_any (is_great_in layout)) (own_first line rest own) ∙ ap (λ b. b || list_any (is_great_in layout) (alone_lines name rest)) great
   any_great (first ∷ passed) line rest own great = by_test (bytes_eq (first_word first) name)
-      (λ is. ap (list_any (is_great_in layout)) (own_first first (passed ++ line ∷ rest) is) ∙ or_true (is_great_in layout first) (list_any (is_great_in layout) (alone_lines name (passed ++ line ∷ rest))) (any_great passed line rest own great))
+      (λ is. ap (list_any (is_great_in layout)) (own_first first (passed ++ line ∷ rest) is) ∙ or_right (is_great_in layout first) (list_any (is_great_in layout) (alone_lines name (passed ++ line ∷ rest))) (any_great passed line rest own great))
       (λ isnt. ap (list_any (is_great_in layout)) (others_first first (passed ++ line ∷ rest) isnt) ∙ any_great passed line rest own great)
-    where
-      or_true : (a b : Bool) → b ≡ true → a || b ≡ true
-      or_true true b e = refl
-      or_true false b e = e
 
   -- what a run over the lines comes to
   pub record Ran (config : TenantConfig) (old : Standing) (lines : List (List ℕ)) (text : List ℕ) (new : Standing) : Type 0 where

@@ -12,6 +12,7 @@ use Rattle.cops_types.specs.Sink.{AppendsFront}
 use Rattle.cops_types.specs.Slots.{slot_of_name}
 use Rattle.cops_types.specs.TenantConfig.{tenant_config}
 use Rattle.cops_types.specs.Words.{first_word}
+use Rattle.cops_types.proofs.Elements.{or_right}
 use Rattle.cops_script.specs.declared.line_runs.fault.RunFault.{RunFault}
 use Rattle.cops_script.specs.declared.line_runs.fault.RunFault.TheVariants as fault
 use Rattle.cops_script.specs.LineRuns.{AnswersAll, IfRunRefused, StopsEarly}
@@ -36,10 +37,6 @@ use Rattle.cops_replay.proofs.RecordRuns.{TellsAs, any_great, great_cut, running
 
 or_false : (a b : Bool) → a ≡ false → b ≡ false → a || b ≡ false
 or_false a b e f = ap (λ x. x || b) e ∙ f
-
-or_true : (a b : Bool) → b ≡ true → a || b ≡ true
-or_true true b e = refl
-or_true false b e = e
 
 module _ (body : ReplaysOf) where
   -- the tenant's lines after a whole head
@@ -89,7 +86,7 @@ module _ (body : ReplaysOf) where
         let great : is_great_in p.layout line ≡ true = sym (great_cut p.layout line) ∙ ap (λ (l : Layout). is_great_in l (cut_line longest_record line)) (sym f.layout_is) ∙ refused.1 in
         subst (RefusesReplayOf body.name bytes) (sym refused.2) (subst (λ (l : Layout). IsRefusedBy l body.name (lines_of bytes) ClockTooGreat) (sym p.layout_is) (record {
           audit = record { config = p.config; records = p.records ++ line ∷ rest; slot = f.slot; tenant = f.tenant; head = p.head ∙ ap (λ ls. Whole p.config (p.records ++ ls)) next; there = f.there; tenant_is = f.tenant_is };
-          great = or_true (starts_great_in p.layout f.tenant) (list_any (is_great_in p.layout) (alone_lines body.name (p.records ++ line ∷ rest))) (any_great body.name p.layout p.records line rest own great);
+          great = or_right (starts_great_in p.layout f.tenant) (list_any (is_great_in p.layout) (alone_lines body.name (p.records ++ line ∷ rest))) (any_great body.name p.layout p.records line rest own great);
         }))
 
   replayed : (bytes text last : List ℕ) → runs.Ended replay_rules body bytes text last → IsReplayOf body.name bytes (text ++ last)
@@ -142,9 +139,7 @@ module _ (name : List ℕ) (old_contents new_contents new_remaining : Option (Li
   refused_for None (fault.Refused refusal) p = tt
   refused_for (Some bytes) (fault.Refused refusal) p =
       subst (λ n. RefusesReplayOf n bytes refusal) named (refused begins.body bytes refusal (runs.refused_in replay_rules begins.body old_contents new_contents new_remaining begins refl begun bytes refusal p))
-  refused_for known fault.OutOfMemory p = tt
-  refused_for known fault.ReadFault p = tt
-  refused_for known fault.WriteFault p = tt
+  refused_for known why p = tt
 
 pub unwritten : (old_contents new_contents new_remaining : Option (List ℕ)) (begins : AuditMachine ReplaysOf Standing) (known : Option (List ℕ)) (why : RunFault ReplayRefusal) →
     StopsEarly (audit_rules replay_rules) longest_record known new_remaining begins old_contents new_contents why → IfRunRefused why (λ refusal. Keeps old_contents new_contents)

@@ -1,6 +1,6 @@
 -- No line in the audit of a script is too long.
 use Rattle.std.proofs.Common.{◌≡◌, ℕ, ◌+◌, ◌≤◌, List, [], ◌∷◌, ◌++◌, length, map, sym, subst, arith}
-use Rattle.std.specs.Prelude.{IsTrue, Some, nat_le, slice_get, slice_index_or}
+use Rattle.std.specs.Prelude.{IsTrue, Some, nat_le, slice_get, slice_index_or, Option}
 use Rattle.std.specs.List.{AllByRecursion}
 use Rattle.std.proofs.lemmas.Bool.Decides.{nat_tests}
 use Rattle.cops_types.specs.declared.configs.Config.{Config}
@@ -8,35 +8,38 @@ use Rattle.cops_types.specs.declared.configs.Tenant.{Tenant}
 use Rattle.cops_types.specs.Head.{Whole, head_of}
 use Rattle.cops_types.specs.Key.{is_name}
 use Rattle.cops_types.specs.TenantConfig.{TenantConfig, tenant_config}
+use Rattle.cops_types.proofs.Elements.{Every-append}
+use Rattle.cops_types.specs.OpenSlots.{begun_with, open_at}
 use Rattle.cops_model.specs.declared.calls.AuditEntry.{AuditEntry}
 use Rattle.cops_model.specs.declared.calls.NodeId.{NodeId}
 use Rattle.cops_node.specs.Clusters.{id_of}
 use Rattle.cops_model.specs.SoloNode.{SoloNode}
 use Rattle.cops_model.specs.Events.{config_at, own}
 use Rattle.cops_model.specs.Events.{cluster_of}
-use Rattle.cops_script.specs.Lives.{of_lives, with_all_lives}
+use Rattle.cops_script.specs.Lives.{of_lives, with_all_lives, Lives, first_lives, lives_after, lives_past}
 use Rattle.cops_model.specs.ListLimits.{HasFew, HasFewInAudit}
 use Rattle.cops_causal.proofs.AuditLists.{audits_few}
-use Rattle.cops_script.specs.Script.{events_in, said_by_lines}
+use Rattle.cops_causal.proofs.Attempts.{Every-front}
+use Rattle.cops_script.specs.Script.{events_in, said_by_lines, said_to}
 use Rattle.cops_script.specs.ScriptWorlds.{life_left, setup_left}
 use Rattle.cops_script.proofs.WholeHeads.{few_deps, shards_of}
+use Rattle.cops_script.proofs.ApartTenants.{name_of}
+use Rattle.cops_script.specs.Said.{said_in, tenants_after, tenants_past}
+use Rattle.cops_script.proofs.Numbered.{AreNumbered, AreOf, next_numbered, numbered_first, of_all_lives}
+use Rattle.cops_script.proofs.SaidLines.{said_in-placed}
+use Rattle.cops_script.proofs.TenantConfigs.{quota_at}
 use Rattle.cops_replay.specs.declared.Record.{Record}
 use Rattle.cops_replay.specs.Audits.{record_of, records_from}
 use Rattle.cops_replay.specs.OpenAudits.{left_config, left_nodes, open_slots}
 use Rattle.cops_replay.specs.RecordText.{is_record, record_line}
 use Rattle.cops_replay.specs.ReplayText.{HasLine, longest_record}
 use Rattle.cops_replay.specs.WrittenAudits.{AreFormed, HaveLines, his_records}
-use Rattle.cops_replay.proofs.AuditLines.{head_known, name_at}
+use Rattle.cops_replay.proofs.AuditLines.{head_known}
 use Rattle.cops_replay.proofs.HeadsBack.{written_head}
 use Rattle.cops_replay.proofs.LineLengths.{line_short}
 use Rattle.cops_replay.proofs.OpenHeads.{open_head}
 use Rattle.cops_replay.proofs.OpenLists.{open_there}
-use Rattle.cops_replay.proofs.OpenLives.{config_of_life}
 use Rattle.cops_replay.proofs.WrittenForms.{AllFormed}
-
-halves : {A : Type 0} (P : A → Type 0) (xs ys : List A) → AllByRecursion P (xs ++ ys) → AllByRecursion P xs × AllByRecursion P ys
-halves P [] ys all = (tt, all)
-halves P (x ∷ xs) ys all = let rest = halves P xs ys all.1 in ((all.0, rest.0), rest.1)
 
 to_test : (n m : ℕ) → n ≤ m → IsTrue (nat_le n m)
 to_test n m h = grind (arith, nat_tests)
@@ -57,12 +60,25 @@ module _ (config : TenantConfig) (limit : config.quota.deps ≤ 1024) (name : Li
   nodes_short shards number (node ∷ nodes) formed few =
       let its = map (record_of (id_of shards number)) node.trail in
       let more = records_from shards (number + 1) nodes in
-      let parts = halves (λ (told : Record). IsTrue (is_record told)) its more formed in
-      joined its more (one_node_short (id_of shards number) node.trail parts.0 few.0) (nodes_short shards (number + 1) nodes parts.1 few.1)
-    where
-      joined : (xs ys : List Record) → AllByRecursion IsShort xs → AllByRecursion IsShort ys → AllByRecursion IsShort (xs ++ ys)
-      joined [] ys h k = k
-      joined (x ∷ xs) ys h k = (h.0, joined xs ys h.1 k)
+      let parts = Every-front (λ (told : Record). IsTrue (is_record told)) its more formed in
+      Every-append IsShort its more (one_node_short (id_of shards number) node.trail parts.0 few.0) (nodes_short shards (number + 1) nodes parts.1 few.1)
+
+-- ---- the cluster that a script leaves an open tenant is one of its configuration
+
+past_numbered : (config : Config) (tenants : List (Option Tenant)) (lives : Lives) (lines : List (List ℕ)) → AreNumbered config tenants lives → AreOf config lives (said_to tenants lines) →
+    AreNumbered config (tenants_past tenants (said_to tenants lines)) (lives_past lives (said_to tenants lines))
+past_numbered config tenants lives [] numbered of = numbered
+past_numbered config tenants lives (line ∷ lines) numbered of =
+    let said = said_in tenants line in
+    past_numbered config (tenants_after tenants said) (lives_after lives said) lines (next_numbered config tenants lives said numbered (said_in-placed tenants line) of.0) of.1
+
+-- its life has its configuration
+pub config_of_life : (config : Config) (lines : List (List ℕ)) (slot : ℕ) (tenant : Tenant) → open_at slot (setup_left config lines).tenants ≡ Some tenant →
+    config_at (with_all_lives config (said_by_lines config lines)) (life_left config lines slot) ≡ tenant_config config tenant
+config_of_life config lines slot tenant there =
+    let said = said_by_lines config lines in
+    let numbered = past_numbered (with_all_lives config said) (begun_with config.tenants) (first_lives config) lines (numbered_first config said) (of_all_lives config said) in
+    quota_at (with_all_lives config said) (life_left config lines slot) tenant (numbered.tenant_is slot tenant there)
 
 -- of a tenant who is open behind a script
 short_at : (lines rest : List (List ℕ)) (config : Config) (place : ℕ) (tenant : Tenant) → head_of lines ≡ Whole config rest → slice_get (left_config config rest).tenants place ≡ Some tenant →
@@ -72,7 +88,7 @@ short_at lines rest config place tenant head e formed =
     let left = left_config config rest in
     let stands = open_head lines rest config head in
     let his = tenant_config left tenant in
-    let named = name_at left.tenants place tenant (head_known (written_head left) [] left stands).named e in
+    let named = name_of left.tenants place tenant (head_known (written_head left) [] left stands).named e in
     let tenants = (setup_left config rest).tenants in
     let slot = slice_index_or (open_slots tenants) place 0 in
     let life = life_left config rest slot in

@@ -1,38 +1,50 @@
--- An audit that both layouts have is migrated whole.
-use Rattle.std.proofs.Common.{◌≡◌, ℕ, ◌+◌, Bool, true, false, cond, List, [], ◌∷◌, ◌++◌, length, refl, sym, subst, ap, ◌∙◌, arith}
-use Rattle.std.specs.Prelude.{Option, Some, None, IsTrue, flat_map, nat_le, nat_lt, Ok}
+-- An audit that both layouts have is migrated whole, and has the same head and the same records in both.
+use Rattle.std.proofs.Common.{◌≡◌, ℕ, ◌+◌, ◌≤◌, Bool, true, false, cond, ◌&&◌, List, [], ◌∷◌, ◌++◌, length, inl, inr, refl, sym, subst, ap, ◌∙◌, arith}
+use Rattle.std.specs.Prelude.{Option, Some, None, IsTrue, flat_map, nat_le, Ok}
 use Rattle.std.specs.List.{AllByRecursion, list_all}
-use Rattle.std.specs.Option.{is_none, option_and_then, option_map}
-use Rattle.std.specs.Str.{bytes_eq}
+use Rattle.std.specs.Option.{is_none, option_map}
+use Rattle.std.proofs.lemmas.Bool.Decides.{nat_tests}
 use Rattle.cops_types.specs.declared.configs.Config.{Config}
 use Rattle.cops_types.specs.declared.configs.Tenant.{Tenant}
 use Rattle.cops_types.specs.declared.faults.Fault.TheVariants.{Syntax}
-use Rattle.cops_types.specs.Head.{Front, AtStart, Within, Begun, HeadReading, Whole, BadAt, is_begun, head_with, may_join, with_tenant}
-use Rattle.cops_types.specs.HeadLines.{begin_line}
+use Rattle.cops_types.specs.Head.{Front, AtStart, Within, Begun, HeadReading, Whole, BadAt, front_after, is_begun, reading_from}
+use Rattle.cops_types.specs.HeadLines.{IsTenantLineTo, is_name, is_quota, is_tenant_to}
 use Rattle.cops_types.specs.Lines.{lines_of}
-use Rattle.cops_types.specs.OldHead.{has_clocks_to, old_front_after, old_reading_from, old_tenant_in}
+use Rattle.cops_types.specs.OldHead.{has_clocks_to, last_old_clock, old_front_after, old_reading_from}
 use Rattle.cops_types.specs.Refusal.{refused_if}
+use Rattle.cops_types.specs.Version.{last_clock}
+use Rattle.cops_types.proofs.FrontLemmas.{front_after-finds}
 use Rattle.cops_types.proofs.WordLemmas.{both}
+use Rattle.cops_script.proofs.HeadRuns.{read_once}
 use Rattle.cops_replay.specs.declared.Record.{Record}
 use Rattle.cops_replay.specs.AuditText.{ended, head_text}
 use Rattle.cops_replay.specs.MigratedText.{migrated_from, migrated_records, migration_of, record_fault, with_text}
-use Rattle.cops_replay.specs.MigrationLaws.{IsAuditInBoth, whole_migration}
+use Rattle.cops_replay.specs.MigrationLaws.{IsAuditInBoth, ReadsAlike, whole_migration}
 use Rattle.cops_replay.specs.OldRecords.{last_early_clock, old_fault_of, old_record_in, old_refusal_of}
+use Rattle.cops_replay.specs.RecordLines.{record_in}
 use Rattle.cops_replay.specs.ReplayText.{IsEarlyLine, longest_record, told_number}
+use Rattle.cops_replay.proofs.EarlyReads.{early_record}
 use Rattle.cops_replay.proofs.MigrationLemmas.{front_goes, head_line, record_line_left}
+use Rattle.cops_replay.proofs.OldFronts.{FollowsTo, old_front_after-is}
 
 -- ---- the records
 
-no_fault : (line : List ℕ) → IsEarlyLine line → record_fault line ≡ None
-no_fault line (told, e) = by_short (nat_le (length line) longest_record) e
+-- the record of a line that both layouts have
+read_early : (line : List ℕ) → IsEarlyLine line → (IsTrue (nat_le (length line) longest_record)) × ((read : List ℕ × Record) × (old_record_in line ≡ Some read))
+read_early line (told, e) = by_short (nat_le (length line) longest_record) e
   where
-    by_read : (found : Option (List ℕ × Record)) → old_record_in line ≡ found → option_map (λ (read : List ℕ × Record). read.1) found ≡ Some told → old_refusal_of line ≡ None
-    by_read None is e = absurd (let clash : ⊥ = cc in clash)
-    by_read (Some read) is e = ap (λ (o : Option (List ℕ × Record)). refused_if (is_none o) (old_fault_of line)) is
+    by_read : (found : Option (List ℕ × Record)) → option_map (λ (read : List ℕ × Record). read.1) found ≡ Some told → (read : List ℕ × Record) × (found ≡ Some read)
+    by_read None e = absurd (let clash : ⊥ = cc in clash)
+    by_read (Some read) e = (read, refl)
 
-    by_short : (t : Bool) → cond t (option_map (λ (read : List ℕ × Record). read.1) (old_record_in line)) None ≡ Some told → cond t (old_refusal_of line) (Some Syntax) ≡ None
-    by_short true e = by_read (old_record_in line) refl e
+    by_short : (t : Bool) → cond t (option_map (λ (read : List ℕ × Record). read.1) (old_record_in line)) None ≡ Some told → IsTrue t × ((read : List ℕ × Record) × (old_record_in line ≡ Some read))
+    by_short true e = (refl, by_read (old_record_in line) e)
     by_short false e = absurd (let clash : ⊥ = cc in clash)
+
+no_fault : (line : List ℕ) → IsEarlyLine line → record_fault line ≡ None
+no_fault line early =
+    let found = read_early line early in
+    ap (λ t. cond t (old_refusal_of line) (Some Syntax)) found.0 ∙ ap (λ (o : Option (List ℕ × Record)). refused_if (is_none o) (old_fault_of line)) found.1.1
 
 records_whole : (lines : List (List ℕ)) (number count : ℕ) → AllByRecursion IsEarlyLine lines → migrated_records lines number count ≡ record { text = flat_map ended lines; outcome = Ok (told_number (count + length lines)) }
 records_whole [] number count all = ap (λ n. record { text = []; outcome = Ok (told_number n) }) (omega arith)
@@ -41,44 +53,58 @@ records_whole (line ∷ lines) number count (here, later) =
     ∙ ap (with_text (ended line)) (records_whole lines (number + 1) (count + 1) later)
     ∙ ap (λ n. record { text = ended line ++ flat_map ended lines; outcome = Ok (told_number n) }) (omega arith)
 
--- ---- the head
+all_read : (lines : List (List ℕ)) → AllByRecursion IsEarlyLine lines → AllByRecursion (λ line. record_in line ≡ old_record_in line) lines
+all_read [] all = tt
+all_read (line ∷ lines) all = let found = (read_early line all.0).1 in (early_record line found.0 found.1 ∙ sym found.1, all_read lines all.1)
 
-all_front : (tenants : List Tenant) (tenant : Tenant) → IsTrue (list_all (λ (t : Tenant). nat_le t.first_clock last_early_clock) (tenants ++ tenant ∷ [])) → IsTrue (list_all (λ (t : Tenant). nat_le t.first_clock last_early_clock) tenants)
-all_front [] tenant h = refl
-all_front (first ∷ tenants) tenant h =
+-- ---- one line of the head
+
+abbrev AreEarly : List Tenant → Type 0
+AreEarly tenants = IsTrue (list_all (λ (t : Tenant). nat_le t.first_clock last_early_clock) tenants)
+
+abbrev IsEarlyFront : Front → Type 0
+IsEarlyFront front = IsTrue (has_clocks_to last_early_clock (Some front))
+
+last_early : (tenants : List Tenant) (tenant : Tenant) → AreEarly (tenants ++ tenant ∷ []) → AreEarly tenants × IsTrue (nat_le tenant.first_clock last_early_clock)
+last_early [] tenant h = (refl, (both (nat_le tenant.first_clock last_early_clock) true h).0)
+last_early (first ∷ tenants) tenant h =
     let b = both (nat_le first.first_clock last_early_clock) (list_all (λ (t : Tenant). nat_le t.first_clock last_early_clock) (tenants ++ tenant ∷ [])) h in
-    rw b.0 (all_front tenants tenant b.1)
+    let rest = last_early tenants tenant b.1 in
+    (rw b.0 rest.0, rest.1)
 
--- the clocks so far are among those after one more line
-pub clocks_before : (front : Front) (line : List ℕ) (next : Front) → old_front_after front line ≡ Some next → IsTrue (has_clocks_to last_early_clock (Some next)) → IsTrue (has_clocks_to last_early_clock (Some front))
-clocks_before AtStart line next e fine = refl
-clocks_before (Within config) line next e fine = by_begin (bytes_eq line begin_line) e
-  where
-    by_place : (t : Bool) (tenant : Tenant) → cond t (Some (Within (with_tenant config tenant))) None ≡ Some next → IsTrue (has_clocks_to last_early_clock (Some (Within config)))
-    by_place true tenant e =
-        let same : Within (with_tenant config tenant) ≡ next = cc in
-        all_front config.tenants tenant (subst (λ (f : Front). IsTrue (has_clocks_to last_early_clock (Some f))) (sym same) fine)
-    by_place false tenant e = absurd (let clash : ⊥ = cc in clash)
+early_fits : (n : ℕ) → IsTrue (nat_le n last_early_clock) → IsTrue (nat_le n last_clock)
+early_fits n h = let low : n ≤ last_early_clock = grind (arith, nat_tests) in grind (arith, nat_tests)
 
-    by_tenant : (found : Option Tenant) → option_and_then (head_with config) found ≡ Some next → IsTrue (has_clocks_to last_early_clock (Some (Within config)))
-    by_tenant None e = absurd (let clash : ⊥ = cc in clash)
-    by_tenant (Some tenant) e = by_place (may_join config tenant) tenant e
+tenant_fits_today : (tenant : Tenant) → IsTrue (is_tenant_to last_old_clock tenant) → IsTrue (nat_le tenant.first_clock last_early_clock) → IsTrue (is_tenant_to last_clock tenant)
+tenant_fits_today tenant h early =
+    let a = both (is_name tenant.name && nat_le tenant.first_clock last_old_clock) (is_quota tenant.quota) h in
+    let b = both (is_name tenant.name) (nat_le tenant.first_clock last_old_clock) a.0 in
+    rw b.0 (rw (early_fits tenant.first_clock early) (rw a.1 refl))
 
-    by_begin : (t : Bool) → cond t (Some (Begun config)) (option_and_then (head_with config) (old_tenant_in line)) ≡ Some next → IsTrue (has_clocks_to last_early_clock (Some (Within config)))
-    by_begin true e = let same : Begun config ≡ next = cc in subst (λ (f : Front). IsTrue (has_clocks_to last_early_clock (Some f))) (sym same) fine
-    by_begin false e = by_tenant (old_tenant_in line) e
-clocks_before (Begun config) line next e fine = absurd (let clash : ⊥ = cc in clash)
+-- a line that leads here in layout 1 leads here today too, if the clocks are early; those before it are then among them
+leads_today : (front : Front) (line : List ℕ) (next : Front) → FollowsTo last_old_clock front line next → IsEarlyFront next → (front_after front line ≡ Some next) × IsEarlyFront front
+leads_today AtStart line next follows fine = (front_after-finds AtStart line next follows, refl)
+leads_today (Within config) line next (inl joins) fine =
+    let early = last_early config.tenants joins.tenant (subst IsEarlyFront joins.after fine) in
+    let is = joins.said in
+    let said : IsTenantLineTo last_clock line joins.tenant = record { token = is.token; spelled = is.spelled; one_word = is.one_word; parses = is.parses; within = tenant_fits_today joins.tenant is.within early.1 } in
+    (front_after-finds (Within config) line next (inl (record { tenant = joins.tenant; said = said; may = joins.may; after = joins.after })), early.0)
+leads_today (Within config) line next (inr ends) fine = (front_after-finds (Within config) line next (inr ends), subst IsEarlyFront ends.after fine)
+leads_today (Begun config) line next follows fine = absurd follows
+
+-- ---- a whole head
 
 abbrev read_on : List (List ℕ) → ℕ → Option Front → HeadReading
 read_on lines number found = elim found [ None ↦ BadAt number | Some next ↦ old_reading_from lines (number + 1) next ]
 
--- from this line on the head is whole, and then come these lines
+-- from this line on the head is whole, in both layouts, and then come these lines
 record GoesWhole (lines : List (List ℕ)) (number : ℕ) (front : Front) (config : Config) (rest : List (List ℕ)) : Type 0 where
   later : ℕ
   is : migrated_from lines number front ≡ with_text (head_text config) (migrated_records rest later 0)
-  clocks : IsTrue (has_clocks_to last_early_clock (Some front))
+  today : reading_from lines number front ≡ Whole config rest
+  clocks : IsEarlyFront front
 
-same_whole : (one other : Config) (lines rest : List (List ℕ)) → Whole one lines ≡ Whole other rest → (one ≡ other) × (lines ≡ rest)
+pub same_whole : (one other : Config) (lines rest : List (List ℕ)) → Whole one lines ≡ Whole other rest → (one ≡ other) × (lines ≡ rest)
 same_whole one other lines rest e = (let same : one ≡ other = cc in same, let same : lines ≡ rest = cc in same)
 
 one_more : (line : List ℕ) (lines : List (List ℕ)) (number : ℕ) (front : Front) (config : Config) (rest : List (List ℕ)) → is_begun front ≡ false →
@@ -87,19 +113,22 @@ one_more : (line : List ℕ) (lines : List (List ℕ)) (number : ℕ) (front : F
 one_more line lines number front config rest still again None was e = absurd (let clash : ⊥ = cc in clash)
 one_more line lines number front config rest still again (Some next) was e =
     let more = again next e in
+    let leads = leads_today front line next (old_front_after-is front line next was) more.clocks in
     record {
       later = more.later;
       is = head_line number front line lines (Ok next) still (front_goes number front next line was true more.clocks) ∙ more.is;
-      clocks = clocks_before front line next was more.clocks;
+      today = read_once front number line lines next still leads.0 ∙ more.today;
+      clocks = leads.1;
     }
 
-goes_whole : (lines : List (List ℕ)) (number : ℕ) (front : Front) (config : Config) (rest : List (List ℕ)) → IsTrue (has_clocks_to last_early_clock (Some (Begun config))) → old_reading_from lines number front ≡ Whole config rest → GoesWhole lines number front config rest
+goes_whole : (lines : List (List ℕ)) (number : ℕ) (front : Front) (config : Config) (rest : List (List ℕ)) → IsEarlyFront (Begun config) → old_reading_from lines number front ≡ Whole config rest → GoesWhole lines number front config rest
 goes_whole lines number (Begun found) config rest fine e =
     let same = same_whole found config lines rest e in
     record {
       later = number;
       is = λ i. with_text (head_text (same.0 i)) (migrated_records (same.1 i) number 0);
-      clocks = subst (λ (c : Config). IsTrue (has_clocks_to last_early_clock (Some (Begun c)))) (sym same.0) fine;
+      today = e;
+      clocks = subst (λ (c : Config). IsEarlyFront (Begun c)) (sym same.0) fine;
     }
 goes_whole [] number AtStart config rest fine e = absurd (let clash : ⊥ = cc in clash)
 goes_whole [] number (Within found) config rest fine e = absurd (let clash : ⊥ = cc in clash)
@@ -108,8 +137,16 @@ goes_whole (line ∷ lines) number AtStart config rest fine e =
 goes_whole (line ∷ lines) number (Within found) config rest fine e =
     one_more line lines number (Within found) config rest refl (λ next h. goes_whole lines (number + 1) next config rest fine h) (old_front_after (Within found) line) refl e
 
-pub whole : (bytes : List ℕ) (config : Config) (lines : List (List ℕ)) → IsAuditInBoth bytes config lines → migration_of bytes ≡ whole_migration config lines
-whole bytes config lines is =
-    let head = goes_whole (lines_of bytes) 1 AtStart config lines is.clocks is.head in
-    let count : 0 + length lines ≡ length lines = omega arith in
-    head.is ∙ ap (with_text (head_text config)) (records_whole lines head.later 0 is.records) ∙ ap (λ n. with_text (head_text config) (record { text = flat_map ended lines; outcome = Ok (told_number n) })) count
+-- ---- an audit
+
+module _ (bytes : List ℕ) (config : Config) (lines : List (List ℕ)) (is : IsAuditInBoth bytes config lines) where
+  head : GoesWhole (lines_of bytes) 1 AtStart config lines
+  head = goes_whole (lines_of bytes) 1 AtStart config lines is.clocks is.head
+
+  pub whole : migration_of bytes ≡ whole_migration config lines
+  whole =
+      let count : 0 + length lines ≡ length lines = omega arith in
+      head.is ∙ ap (with_text (head_text config)) (records_whole lines head.later 0 is.records) ∙ ap (λ n. with_text (head_text config) (record { text = flat_map ended lines; outcome = Ok (told_number n) })) count
+
+  pub alike : ReadsAlike bytes config lines
+  alike = record { head = head.today; records = all_read lines is.records }

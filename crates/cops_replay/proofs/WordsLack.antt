@@ -23,6 +23,7 @@ use Rattle.cops_model.specs.declared.calls.Wanted.{Wanted}
 use Rattle.cops_model.specs.declared.calls.Wanted.TheVariants.{Latest, Exactly}
 use Rattle.cops_replay.specs.declared.Record.{Record}
 use Rattle.cops_types.specs.PairForms.{are_deps, are_near, is_pair, is_version}
+use Rattle.cops_types.proofs.Elements.{Every-append}
 use Rattle.cops_replay.specs.RecordText.{bytes_text, call_words, digit_text, entry_words, is_audited, is_bytes, is_call, is_entry, is_record, is_reply, is_wanted, node_text, record_value, reply_words, wanted_text}
 use Rattle.cops_replay.proofs.ReadBack.{lacks_both, version_numbers}
 
@@ -177,10 +178,6 @@ module _ (s : ℕ) (low : s ≤ 32) where
   reply_free (Removed count) h = (high (codes "removed") refl, (number_free count h, tt))
   reply_free (Refused fault) h = refused_free fault h
 
-  all_both : (words more : List (List ℕ)) → AllByRecursion (Lacks s) words → AllByRecursion (Lacks s) more → AllByRecursion (Lacks s) (words ++ more)
-  all_both [] more h k = k
-  all_both (word ∷ words) more h k = (h.0, all_both words more h.1 k)
-
   node_free : (id : NodeId) → IsTrue (is_u64 id.dc) → IsTrue (is_u64 id.shard) → Lacks s (node_text id)
   node_free id dc shard = lacks_both s (decimal id.dc) (46 ∷ decimal id.shard) (number_free id.dc dc) (apart _ refl, number_free id.shard shard)
 
@@ -188,5 +185,5 @@ module _ (s : ℕ) (low : s ≤ 32) where
   words_lack tenant told named h =
       let holds = record_holds told h in (
         name_lacks s foreign tenant named,
-        (node_free told.node holds.dc holds.shard, (number_free told.moment holds.moment, all_both (call_words told.call) (codes "=" ∷ reply_words told.reply) (call_free told.call holds.call) (high (codes "=") refl, reply_free told.reply holds.reply))),
+        (node_free told.node holds.dc holds.shard, (number_free told.moment holds.moment, Every-append (Lacks s) (call_words told.call) (codes "=" ∷ reply_words told.reply) (call_free told.call holds.call) (high (codes "=") refl, reply_free told.reply holds.reply))),
       )

@@ -8,6 +8,7 @@ use Rattle.cops_types.specs.Lines.{lines_of}
 use Rattle.cops_types.specs.TenantConfig.{TenantConfig, tenant_config}
 use Rattle.cops_model.specs.SoloNode.{SoloNode}
 use Rattle.cops_script.specs.Script.{Written}
+use Rattle.cops_script.proofs.ApartTenants.{name_of}
 use Rattle.cops_replay.specs.declared.layouts.Layout.TheVariants.{Today}
 use Rattle.cops_replay.specs.declared.Replayed.TheVariants.{Same}
 use Rattle.cops_replay.specs.Audits.{ReplaysSame}
@@ -19,7 +20,7 @@ use Rattle.cops_replay.specs.RecordText.{record_line}
 use Rattle.cops_replay.specs.Replaying.{fresh_nodes}
 use Rattle.cops_replay.specs.ReplayText.{FindsBy, IsReplayBy, IsReplayOf, replayed_text}
 use Rattle.cops_replay.specs.WrittenAudits.{AreFormed, AreFormedFor, HaveLines, SaysSame, SaysSameFor, his_records}
-use Rattle.cops_replay.proofs.AuditLines.{head_known, lines_his, name_at, named_at}
+use Rattle.cops_replay.proofs.AuditLines.{head_known, lines_his, named_at}
 use Rattle.cops_replay.proofs.EarlyRecords.{none_great_today}
 use Rattle.cops_replay.proofs.HeadsBack.{written_head}
 use Rattle.cops_replay.proofs.HeadTexts.{text_is_todays, text_reads_back}
@@ -49,13 +50,13 @@ says_same lines rest config nodes slot tenant head all e same =
       fits = none_great_today (alone_lines tenant.name (lines_of text));
       found = Same (length records);
       finds = subst (λ its. FindsBy Today Today his 0 (fresh_nodes his) its (Same (length records))) (sym own)
-          (found_in his tenant.name 0 (fresh_nodes his) records (Same (length records)) (name_at config.tenants slot tenant known.named e) (all slot tenant e) same);
+          (found_in his tenant.name 0 (fresh_nodes his) records (Same (length records)) (name_of config.tenants slot tenant known.named e) (all slot tenant e) same);
       text_is = refl;
     })
 
 -- ---- of a script
 
-same_text : (text other : List ℕ) → Written text ≡ Written other → text ≡ other
+pub same_text : (text other : List ℕ) → Written text ≡ Written other → text ≡ other
 same_text text other e = cc
 
 by_head : (lines : List (List ℕ)) (reading : HeadReading) (text : List ℕ) → head_of lines ≡ reading → audit_after reading ≡ Written text → AreFormedFor reading → ReplaysSameFor reading → SaysSameFor reading text

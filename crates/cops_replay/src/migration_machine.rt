@@ -4,9 +4,8 @@ ghost use Rattle.cops_types.specs.Head.{AtStart};
 ghost use Rattle.cops_script.specs.LineAnswers.{Answers, IfRefused};
 ghost use Rattle.cops_replay.specs.AuditText.{ended};
 ghost use Rattle.cops_replay.specs.declared.migration_machine.OldPart.TheVariants.{Head};
-ghost use Rattle.cops_replay.specs.MigratedHeads.{MigratedHeadAnswers};
 ghost use Rattle.cops_replay.specs.MigratedText.{record_fault};
-ghost use Rattle.cops_replay.specs.MigrationRules.{OldHeadEnds, OldHeadGoesOn, OldHeadIsRefused, RecordRefuses, part_answers, part_refuses};
+ghost use Rattle.cops_replay.specs.MigrationRules.{IsInOldHead, OldHeadEnds, OldHeadGoesOn, OldHeadIsRefused, RecordRefuses, part_answers, part_refuses};
 
 use crate::heads::push_head;
 use crate::layouts::{LAST_EARLY_CLOCK, VersionSet};
@@ -118,25 +117,30 @@ fn move_record(
     }
 }
 
-/// Appends the answer to the line of this number in a head. Returns `true` if it ends the head. It
+/// Appends the answer to the line of this number in a head. If it is the last, the records begin. It
 /// is a function of its own, so that a record's line needs no room for a configuration.
 #[inline(never)]
 fn answer_head(
-    reader: &mut OldConfigReader,
+    part: &mut OldPart,
     alloc: Global,
     line: &[u8],
     number: u64,
     out: &mut Vec<u8>,
-) -> Result<bool, Stop<MigrationRefusal>>
-    ensures ok { IfOk result (λ ends. MigratedHeadAnswers ends reader.old line.now reader.new out.old.items out.new.items) }
-    ensures err { IfErr result (λ stop. IfRefused stop (OldHeadIsRefused reader.old line.now number)) }
+) -> Result<(), Stop<MigrationRefusal>>
+    requires { IsInOldHead part.old }
+    ensures ok { OnOk result (Answers (part_answers part.old line.now) part.new out.old.items out.new.items) }
+    ensures err { IfErr result (λ stop. IfRefused stop (part_refuses part.old line.now number)) }
 {
-    match read_old_head(alloc, reader, line, number)? {
-        None => Ok(false),
-        Some(config) => {
+    match part {
+        OldPart::Head(reader) => {
+            let Some(config) = read_old_head(alloc, reader, line, number)? else {
+                return Ok(());
+            };
             push_head(out, &config, config.tenants.as_slice())?;
-            Ok(true)
+            *part = OldPart::Records(0);
+            Ok(())
         }
+        OldPart::Records(_) => unreachable!(),
     }
 }
 
@@ -152,14 +156,7 @@ fn answer_line(
     ensures err { IfErr result (λ stop. IfRefused stop (part_refuses part.old line.now number)) }
 {
     match part {
-        OldPart::Head(reader) => {
-            let ends = answer_head(reader, alloc, line, number, out)?;
-            if !ends {
-                return Ok(());
-            }
-            *part = OldPart::Records(0);
-            Ok(())
-        }
+        OldPart::Head(_) => answer_head(part, alloc, line, number, out),
         OldPart::Records(count) => {
             move_record(alloc, line, number, out)?;
             *count = count.saturating_add(1);

@@ -1,6 +1,6 @@
+use Rattle.std.proofs.lemmas.Option.{IfSome_then}
 use Rattle.std.proofs.lemmas.Result.{on_ok_weaker}
-use Rattle.cops_replay.proofs.AuditRunLemmas.{all_audited, all_replay_same, all_say_same, front_audited, never_read, never_refused, none_audited, on_err_any, on_ok_any, tenants_read}
-use Rattle.cops_replay.proofs.OwnAuditRuns.{all_formed_for}
+use Rattle.cops_replay.proofs.AuditRunLemmas.{formed_for, never_read, never_refused, none_audited, on_err_any, on_ok_any, replays_same_for, says_same_left, tenants_read, writes_audit, writes_front}
 use Rattle.cops_replay.proofs.audit_runs.audit_text.Goals as goal
 
 pub returns-in-Err-clause-err : goal.returns-in-Err-clause-err
@@ -10,10 +10,10 @@ pub write_world-result-requires : goal.write_world-result-requires
 write_world-result-requires g c = tenants_read c.in-Ok.world _ _ c.in-Ok.ensures.read
 
 pub returns-clause-ok : goal.returns-clause-ok
-returns-clause-ok g c = on_ok_weaker c.write_world-result.result (all_audited c.in-Ok.world _ _ _ c.in-Ok.ensures.ok) c.write_world-result.ensures.ok
+returns-clause-ok g c = on_ok_weaker c.write_world-result.result (λ written. IfSome_then _ c.in-Ok.ensures.ok (λ bytes left. writes_audit c.in-Ok.world bytes left _ _ written)) c.write_world-result.ensures.ok
 
 pub returns-clause-err : goal.returns-clause-err
-returns-clause-err g c = on_err_any _ c.write_world-result.result (front_audited c.in-Ok.world _ _ _ c.in-Ok.ensures.ok c.write_world-result.ensures.front)
+returns-clause-err g c = on_err_any _ c.write_world-result.result (IfSome_then _ c.in-Ok.ensures.ok (λ bytes left. writes_front c.in-Ok.world bytes left _ _ c.write_world-result.ensures.front))
 
 pub returns-clause-bad_head : goal.returns-clause-bad_head
 returns-clause-bad_head g c = never_refused _ c.write_world-result.result c.write_world-result.ensures.fault
@@ -25,10 +25,10 @@ pub returns-clause-read_fault : goal.returns-clause-read_fault
 returns-clause-read_fault g c is = absurd (never_read c.write_world-result.result c.write_world-result.ensures.fault is)
 
 pub returns-clause-replays : goal.returns-clause-replays
-returns-clause-replays g c = on_ok_any _ c.write_world-result.result (all_replay_same c.in-Ok.world _ c.in-Ok.ensures.ok c.write_world-result.ensures.replays)
+returns-clause-replays g c = on_ok_any _ c.write_world-result.result (IfSome_then _ c.in-Ok.ensures.ok (λ bytes left. replays_same_for c.in-Ok.world bytes left c.write_world-result.ensures.replays))
 
 pub returns-clause-says_same : goal.returns-clause-says_same
-returns-clause-says_same g c = on_ok_weaker c.write_world-result.result (all_say_same c.in-Ok.world _ c.in-Ok.ensures.ok c.write_world-result.ensures.replays) c.write_world-result.ensures.formed
+returns-clause-says_same g c = on_ok_weaker c.write_world-result.result (λ formed. IfSome_then _ c.in-Ok.ensures.ok (λ bytes left. says_same_left c.in-Ok.world bytes left c.write_world-result.ensures.replays formed)) c.write_world-result.ensures.formed
 
 pub returns-clause-formed : goal.returns-clause-formed
-returns-clause-formed g c = on_ok_weaker c.write_world-result.result (all_formed_for c.in-Ok.world _ c.in-Ok.ensures.ok) c.write_world-result.ensures.formed
+returns-clause-formed g c = on_ok_weaker c.write_world-result.result (λ formed. IfSome_then _ c.in-Ok.ensures.ok (λ bytes left. formed_for c.in-Ok.world bytes left formed)) c.write_world-result.ensures.formed

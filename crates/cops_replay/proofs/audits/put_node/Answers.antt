@@ -1,5 +1,6 @@
 use Rattle.std.proofs.Common.{suc, ◌≡◌, List, length, map, take, drop, sym, subst, arith, Ok, Some}
 use Rattle.std.specs.Prelude.{slice_get}
+use Rattle.std.proofs.lemmas.List.{take_all}
 use Rattle.cops_types.specs.Sink.{sink_failures, sink_writer}
 use Rattle.cops_types.specs.TenantConfig.{tenant_config}
 use Rattle.cops_model.specs.declared.calls.AuditEntry.{AuditEntry}
@@ -10,7 +11,7 @@ use Rattle.cops_replay.specs.AuditText.{ended, records_text}
 use Rattle.cops_replay.specs.Pages.{PutsText, page}
 use Rattle.cops_replay.specs.RecordText.{record_line}
 use Rattle.cops_replay.proofs.PageLemmas.{Puts-ends, Puts-then}
-use Rattle.cops_replay.proofs.AuditTexts.{node_text_cut, node_text_one_more, take_whole}
+use Rattle.cops_replay.proofs.AuditTexts.{node_text_cut, node_text_one_more}
 use Rattle.cops_replay.proofs.WrittenForms.{AllFormed, one_more_formed, reply_formed}
 use Rattle.cops_replay.proofs.audits.put_node.Goals as goal
 
@@ -56,7 +57,7 @@ returns-clause-text g c =
     c.audit_len-place-end.ensures.solo place c.requires in
     let old = page c.args.out.now.items (g.W.Write.contents (sink_writer c.args.sink.now)) (sink_failures c.args.sink.now) in
     let new = page c.loop-place.out.items (g.W.Write.contents (sink_writer c.loop-place.sink)) (sink_failures c.loop-place.sink) in
-    let all : take c.loop-place.place trail ≡ trail = take_whole trail c.loop-place.place (omega arith) in
+    let all : take c.loop-place.place trail ≡ trail = take_all c.loop-place.place trail (omega arith) in
     subst (λ (t : List AuditEntry). PutsText {T = Unit {0}} (records_text name (map (record_of id) t)) old (Ok tt) new) all c.loop-place.invariant.text
 
 pub returns-clause-formed : goal.returns-clause-formed
@@ -66,5 +67,5 @@ returns-clause-formed g c =
     let trail = (solo_of c.args.slot place c.args.node.now).trail in
     let many : c.audit_len-place-end.result ≡ length trail =
     c.audit_len-place-end.ensures.solo place c.requires in
-    let all : take c.loop-place.place trail ≡ trail = take_whole trail c.loop-place.place (omega arith) in
+    let all : take c.loop-place.place trail ≡ trail = take_all c.loop-place.place trail (omega arith) in
     subst (λ (t : List AuditEntry). AllFormed (map (record_of id) t)) all c.loop-place.invariant.formed

@@ -1,8 +1,7 @@
 use Rattle.cops_replay.specs.declared.layouts.Layout.TheVariants.{Early, Today}
 use Rattle.cops_replay.proofs.EarlyRecords.{replayed_alike}
 use Rattle.cops_replay.proofs.HeadTexts.{refuses_alike, replays_alike, text_is_todays, text_reads_back}
-use Rattle.cops_replay.proofs.HeadsInBoth.{alike}
-use Rattle.cops_replay.proofs.WholeMigrations.{whole}
+use Rattle.cops_replay.proofs.WholeMigrations.{alike, whole}
 use Rattle.cops_replay.proofs.laws.migrated_audits_replay_alike.Goals as goal
 
 pub returns-clause-whole : goal.returns-clause-whole

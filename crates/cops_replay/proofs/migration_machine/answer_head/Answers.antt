@@ -1,14 +1,13 @@
-use Rattle.std.proofs.Common.{◌++◌, ◌∙◌, ap, refl}
+use Rattle.std.proofs.Common.{[], ◌∙◌, ap, append-nil, refl, subst, sym}
+use Rattle.cops_script.specs.LineAnswers.{Answers}
 use Rattle.cops_replay.specs.AuditText.{head_text}
 use Rattle.cops_replay.specs.OpenAudits.{with_tenants}
+use Rattle.cops_replay.specs.declared.migration_machine.OldPart.{OldPart}
+use Rattle.cops_replay.specs.declared.migration_machine.OldPart.TheVariants.{Head, Records}
+use Rattle.cops_replay.specs.MigrationRules.{part_answers}
 use Rattle.cops_replay.proofs.migration_machine.answer_head.Goals as goal
 
-pub returns-in_ok-push_head-in-Some-clause-ok : goal.returns-in_ok-push_head-in-Some-clause-ok
-returns-in_ok-push_head-in-Some-clause-ok c = (
-  c.in-Some.config,
-  (rw c.in-Some.is at c.in_ok-read_old_head.ensures.begun),
-  c.in_ok-push_head-in-Some.ensures ∙ ap (λ tenants. c.args.out.now.items ++ head_text (with_tenants c.in-Some.config tenants)) c.as_slice.ensures.value,
-)
-
-pub returns-in-None-clause-ok : goal.returns-in-None-clause-ok
-returns-in-None-clause-ok c = ((rw c.in-None.is at c.in_ok-read_old_head.ensures.more), refl)
+pub returns-in_default-clause-ok : goal.returns-in_default-clause-ok
+returns-in_default-clause-ok c =
+    subst (λ (p : OldPart). Answers (part_answers p c.args.line.now) (Head c.read_old_head.new.reader) c.args.out.now.items c.args.out.now.items) (sym c.in-Head.is)
+    (record { text = []; answered = ((rw c.in_default.is at c.in_ok-config-in-Head.ensures.more), refl); appended = sym (append-nil c.args.out.now.items) })

@@ -1,5 +1,6 @@
 use Rattle.std.proofs.Common.{sym, ◌∙◌, refl}
-use Rattle.cops_replay.proofs.OldHeadSteps.{bad_line, goes_on, too_great}
+use Rattle.cops_replay.proofs.OldFronts.{bad_said}
+use Rattle.cops_replay.proofs.OldHeadSteps.{goes_on, too_great}
 use Rattle.cops_replay.proofs.migration_machine.read_old_head.Goals as goal
 
 pub returns-then-has_clocks_to-clause-more : goal.returns-then-has_clocks_to-clause-more
@@ -12,4 +13,4 @@ returns-else-has_clocks_to-clause-err c =
     (found.0, found.1, found.2, refl, refl)
 
 pub returns-in-Ok-BadLine-clause-err : goal.returns-in-Ok-BadLine-clause-err
-returns-in-Ok-BadLine-clause-err c = (bad_line c.args.reader.now c.args.line.now (sym c.in-Ok-BadLine.field-0-is ∙ c.in-Ok-BadLine.ensures.said), refl)
+returns-in-Ok-BadLine-clause-err c = (bad_said c.args.reader.now c.args.line.now (sym c.in-Ok-BadLine.field-0-is ∙ c.in-Ok-BadLine.ensures.said), refl)

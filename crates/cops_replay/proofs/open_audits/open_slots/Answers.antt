@@ -1,8 +1,8 @@
 use Rattle.std.proofs.Common.{◌≡◌, ℕ, ◌<◌, ◌++◌, [], ◌∷◌, Global, Vec, length, sym, ap, ◌∙◌}
 use Rattle.std.specs.Prelude.{slice_get, Some}
 use Rattle.std.proofs.lemmas.Option.{slice_get-get_or}
+use Rattle.std.proofs.lemmas.List.{take_all}
 use Rattle.cops_replay.specs.OpenAudits.{open_slots}
-use Rattle.cops_replay.proofs.AuditTexts.{take_whole}
 use Rattle.cops_replay.proofs.OpenLists.{slot_where_none, slot_where_some}
 use Rattle.cops_replay.proofs.open_audits.open_slots.Goals.{then-is_some+in_ok-push, else-is_some}
 use Rattle.cops_replay.proofs.open_audits.open_slots.Goals as goal
@@ -23,4 +23,4 @@ loop-slot-preserved c =
     ]
 
 pub returns : goal.returns
-returns c = c.loop-slot.invariant ∙ ap open_slots (take_whole c.args.tenants.now c.loop-slot.slot c.loop-slot-test.false)
+returns c = c.loop-slot.invariant ∙ ap open_slots (take_all c.loop-slot.slot c.args.tenants.now c.loop-slot-test.false)

@@ -1,9 +1,9 @@
 use Rattle.std.proofs.Common.{◌≡◌, ◌<◌, ◌++◌, [], ◌∷◌, Global, Vec, length, sym, ap, ◌∙◌}
 use Rattle.std.specs.Prelude.{slice_get, Some, None}
 use Rattle.std.proofs.lemmas.Option.{slice_get-get_or}
+use Rattle.std.proofs.lemmas.List.{take_all}
 use Rattle.cops_types.specs.declared.configs.Tenant.{Tenant}
 use Rattle.cops_replay.specs.OpenAudits.{open_tenants}
-use Rattle.cops_replay.proofs.AuditTexts.{take_whole}
 use Rattle.cops_replay.proofs.OpenLists.{no_more_tenant, one_more_tenant}
 use Rattle.cops_replay.proofs.open_audits.open_tenants.Goals.{in-Some+in_ok-push, in_default}
 use Rattle.cops_replay.proofs.open_audits.open_tenants.Goals as goal
@@ -25,4 +25,4 @@ loop-tenant-preserved c =
     ]
 
 pub returns : goal.returns
-returns c = c.loop-tenant.invariant ∙ ap open_tenants (take_whole c.args.tenants.now c.loop-tenant.tenant-index c.loop-tenant-test.false)
+returns c = c.loop-tenant.invariant ∙ ap open_tenants (take_all c.loop-tenant.tenant-index c.args.tenants.now c.loop-tenant-test.false)

@@ -1,6 +1,8 @@
 use Rattle.std.proofs.Common.{Err, ap}
+use Rattle.std.proofs.lemmas.Option.{IfSome_then}
+use Rattle.std.proofs.lemmas.Result.{on_err_weaker, on_ok_weaker}
 use Rattle.cops_replay.proofs.AuditRunLemmas.{tenants_read}
-use Rattle.cops_replay.proofs.OwnAuditRuns.{all_own_say_same, all_own_written, bad_refused, err_refused, no_own_front, nothing_kept, some_own_written, was_read, was_write}
+use Rattle.cops_replay.proofs.OwnAuditRuns.{bad_refused, both_ok, err_refused, no_own_front, nothing_kept, says_part, was_read, was_write, writes_own, writes_own_front}
 use Rattle.cops_replay.proofs.own_audits.audit_part_text.Goals as goal
 
 pub returns-in-Err-clause-err : goal.returns-in-Err-clause-err
@@ -22,13 +24,13 @@ pub write_own-result-requires : goal.write_own-result-requires
 write_own-result-requires g c = tenants_read c.in-Ok.world _ _ c.in-Ok.ensures.read
 
 pub returns-clause-ok : goal.returns-clause-ok
-returns-clause-ok g c = all_own_written c.in-Ok.world c.args.tenant.now _ _ c.write_own-result.result _ c.in-Ok.ensures.ok c.write_own-result.ensures.ok
+returns-clause-ok g c = on_ok_weaker c.write_own-result.result (λ written. IfSome_then _ c.in-Ok.ensures.ok (λ bytes left. writes_own c.in-Ok.world bytes left c.args.tenant.now _ _ written)) c.write_own-result.ensures.ok
 
 pub returns-clause-err : goal.returns-clause-err
-returns-clause-err g c = some_own_written c.in-Ok.world c.args.tenant.now _ _ c.write_own-result.result _ c.in-Ok.ensures.ok c.write_own-result.ensures.front
+returns-clause-err g c = on_err_weaker c.write_own-result.result (λ written. IfSome_then _ c.in-Ok.ensures.ok (λ bytes left. writes_own_front c.in-Ok.world bytes left c.args.tenant.now _ _ written)) c.write_own-result.ensures.front
 
 pub returns-clause-says_same : goal.returns-clause-says_same
-returns-clause-says_same g c = all_own_say_same c.in-Ok.world c.args.tenant.now _ _ c.write_own-result.result _ c.in-Ok.ensures.ok c.write_own-result.ensures.ok c.write_own-result.ensures.replays
+returns-clause-says_same g c = both_ok c.write_own-result.result (λ written same. IfSome_then _ c.in-Ok.ensures.ok (λ bytes left. says_part c.in-Ok.world bytes left c.args.tenant.now _ _ written same)) c.write_own-result.ensures.ok c.write_own-result.ensures.replays
 
 pub returns-clause-refused : goal.returns-clause-refused
 returns-clause-refused g c = err_refused c.in-Ok.world c.args.tenant.now _ c.in-Ok.ensures.ok c.write_own-result.result c.write_own-result.ensures.refused

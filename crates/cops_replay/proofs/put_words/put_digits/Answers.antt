@@ -1,5 +1,5 @@
 use Rattle.std.proofs.Common.{arith}
-use Rattle.cops_replay.proofs.Digits.{bytes_small}
+use Rattle.cops_replay.proofs.PartLemmas.{bytes_small}
 use Rattle.cops_replay.proofs.put_words.put_digits.Goals as goal
 
 pub returns-clause-formed : goal.returns-clause-formed

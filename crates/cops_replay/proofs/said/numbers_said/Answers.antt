@@ -1,5 +1,5 @@
 use Rattle.std.proofs.Common.{◌∙◌, sym}
-use Rattle.cops_replay.proofs.DottedNumbers.{no_dot, numbers_split}
+use Rattle.cops_replay.proofs.PartLemmas.{no_dot, numbers_split}
 use Rattle.cops_replay.proofs.said.numbers_said.Goals as goal
 
 pub returns-in-Some : goal.returns-in-Some

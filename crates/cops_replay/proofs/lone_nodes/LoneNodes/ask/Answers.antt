@@ -6,7 +6,7 @@ use Rattle.cops_types.specs.TenantConfig.{TenantConfig}
 use Rattle.cops_model.specs.SoloNode.{SoloNode}
 use Rattle.cops_node.specs.Counting.{Counting}
 use Rattle.cops_replay.specs.Replays.{AreLoneNodes, IsReplied, Lone}
-use Rattle.cops_replay.proofs.ReplayLemmas.{no_node, not_fitting, number_small, replied}
+use Rattle.cops_replay.proofs.ReplayLemmas.{not_fitting, number_small, replied}
 use Rattle.cops_replay.proofs.lone_nodes.LoneNodes.ask.Goals as goal
 
 pub overflow_mul-number : goal.overflow_mul-number
