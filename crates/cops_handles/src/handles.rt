@@ -72,7 +72,8 @@ impl<K: Kind> Handle<K> {
     /// Returns the handle that these bytes encode. Fails with `NoContext` if the tag is of another
     /// kind.
     pub fn from_wire(bytes: [u8; 9]) -> Result<Self, Fault>
-        ensures { result ≡ (if slice_index bytes 0 == K.TAG then Ok (from_be_bytes w64 (drop 1 bytes)) else Err Fault.NoContext) }
+        ensures { result ≡ (if slice_index bytes 0 == K.TAG
+            then Ok (from_be_bytes w64 (drop 1 bytes)) else Err Fault.NoContext) }
     {
         let [tag, a, b, c, d, e, f, g, h] = bytes;
         if tag == K::TAG {

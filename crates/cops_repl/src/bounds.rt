@@ -6,5 +6,6 @@ ghost use Rattle.cops_model.specs.Carrier.{Stream};
 /// Theorem: whatever the nodes reply, a carrier without an answer has had at most one reply for
 /// each near pair of the entry that it pulled, and three more.
 pub fn replies_are_few()
-    ensures { (shards : ℕ) (stream : Stream) (log : List LogStep) → IsDeliveryBounded shards stream log }
+    ensures { (shards : ℕ) (stream : Stream) (log : List LogStep) →
+        IsDeliveryBounded shards stream log }
 {}

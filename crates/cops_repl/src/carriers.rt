@@ -41,7 +41,8 @@ impl Carrier {
     /// Returns a carrier of the stream from a node to another data centre. Its steps need that both
     /// exist.
     pub fn new(config: &Config, origin: NodeId, to_dc: u64) -> Self
-        ensures stands { CarrierStandsFor config.now.shards result (new_carrier (record { origin = origin; to_dc = to_dc })) }
+        ensures stands { CarrierStandsFor config.now.shards result
+            (new_carrier (record { origin = origin; to_dc = to_dc })) }
         ensures goes_on { has_ended result ≡ false }
     {
         Carrier {
@@ -76,9 +77,12 @@ impl Carrier {
         // One call is made. For each carrier of the definition that this one represented, it is the
         // next call, and the step is the definition's.
         ensures called { (directed : Directed) × (reply : NodeReply)
-            × N.Answers nodes.old directed.node slot (max self.old.moment moment) directed.call reply nodes.new
+            × N.Answers nodes.old directed.node slot
+            (max self.old.moment moment) directed.call reply nodes.new
             × ((shards : ℕ) (solo : Solo) → CarrierStandsFor shards self.old solo →
-            IsStepOf shards solo directed (record { moment = max solo.moment moment; outcome = Replied reply }) (told_progress result) self.new) }
+            IsStepOf shards solo directed
+            (record { moment = max solo.moment moment; outcome = Replied reply })
+            (told_progress result) self.new) }
         ensures stream { self.new.stream ≡ self.old.stream }
         ensures shards { self.new.shards ≡ self.old.shards }
         ensures moment { self.new.moment ≡ max self.old.moment moment }
@@ -86,7 +90,9 @@ impl Carrier {
 
         // If memory runs out, it was the node's, which leaves the nodes as they were.
         ensures err { OnErr result (has_ended self.new ≡ true) }
-        ensures refused { OnErr result ((directed : Directed) × N.Answers nodes.old directed.node slot (max self.old.moment moment) directed.call (Refused OutOfMemory) nodes.new) }
+        ensures refused { OnErr result
+            ((directed : Directed) × N.Answers nodes.old directed.node slot
+            (max self.old.moment moment) directed.call (Refused OutOfMemory) nodes.new) }
         ensures shape { N.shape nodes.new ≡ N.shape nodes.old }
     {
         self.moment = self.moment.max(moment);

@@ -31,7 +31,8 @@ fn collect_in<N: Nodes>(
 ) -> Result<u64, RequestError>
     requires dc { dc < (N.shape nodes.old).data_centres }
     requires shards { shards ≡ (N.shape nodes.old).shards }
-    ensures collected { CollectsAll N.Answers slot moment start (nodes_of_data_centre shards dc) nodes.old nodes.new (told_total result) }
+    ensures collected { CollectsAll N.Answers slot moment start
+        (nodes_of_data_centre shards dc) nodes.old nodes.new (told_total result) }
     ensures shape { N.shape nodes.new ≡ N.shape nodes.old }
 {
     let mut total = start;
@@ -53,7 +54,9 @@ pub fn collect_all<N: Nodes>(
 ) -> Result<u64, RequestError>
     requires data_centres { config.now.data_centres ≡ (N.shape nodes.old).data_centres }
     requires shards { config.now.shards ≡ (N.shape nodes.old).shards }
-    ensures collected { CollectsAll N.Answers slot moment 0 (all_nodes config.now.data_centres config.now.shards) nodes.old nodes.new (told_total result) }
+    ensures collected { CollectsAll N.Answers slot moment 0
+        (all_nodes config.now.data_centres config.now.shards) nodes.old nodes.new
+        (told_total result) }
     ensures shape { N.shape nodes.new ≡ N.shape nodes.old }
 {
     let mut total = 0;

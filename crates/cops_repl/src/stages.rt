@@ -60,8 +60,11 @@ impl Route {
         requires stream { RunsIn (N.shape nodes.old) self.now.shards (stream_of self.now) }
         ensures called { (directed : Directed) × (reply : NodeReply)
             × N.Answers nodes.old directed.node slot moment directed.call reply nodes.new
-            × IsStepFrom self.now.shards (stream_of self.now) stage directed reply (told_after result) }
-        ensures refused { OnErr result ((directed : Directed) × N.Answers nodes.old directed.node slot moment directed.call (Refused OutOfMemory) nodes.new) }
+            × IsStepFrom self.now.shards (stream_of self.now) stage directed reply
+            (told_after result) }
+        ensures refused { OnErr result
+            ((directed : Directed) × N.Answers nodes.old directed.node slot moment directed.call
+            (Refused OutOfMemory) nodes.new) }
         ensures sound { IfOk result (IsSoundAfter self.now.shards (stream_of self.now)) }
         ensures shape { N.shape nodes.new ≡ N.shape nodes.old }
     {
@@ -102,8 +105,11 @@ impl Route {
         requires stream { RunsIn (N.shape nodes.old) self.now.shards (stream_of self.now) }
         ensures called { (directed : Directed) × (reply : NodeReply)
             × N.Answers nodes.old directed.node slot moment directed.call reply nodes.new
-            × IsStepFrom self.now.shards (stream_of self.now) Pulling directed reply (told_after result) }
-        ensures refused { OnErr result ((directed : Directed) × N.Answers nodes.old directed.node slot moment directed.call (Refused OutOfMemory) nodes.new) }
+            × IsStepFrom self.now.shards (stream_of self.now) Pulling directed reply
+            (told_after result) }
+        ensures refused { OnErr result
+            ((directed : Directed) × N.Answers nodes.old directed.node slot moment directed.call
+            (Refused OutOfMemory) nodes.new) }
         ensures sound { IfOk result (IsSoundAfter self.now.shards (stream_of self.now)) }
         ensures shape { N.shape nodes.new ≡ N.shape nodes.old }
     {
@@ -145,8 +151,11 @@ impl Route {
         requires stream { RunsIn (N.shape nodes.old) self.now.shards (stream_of self.now) }
         ensures called { (directed : Directed) × (reply : NodeReply)
             × N.Answers nodes.old directed.node slot moment directed.call reply nodes.new
-            × IsStepFrom self.now.shards (stream_of self.now) (Carrying entry checked) directed reply (told_after result) }
-        ensures refused { OnErr result ((directed : Directed) × N.Answers nodes.old directed.node slot moment directed.call (Refused OutOfMemory) nodes.new) }
+            × IsStepFrom self.now.shards (stream_of self.now)
+            (Carrying entry checked) directed reply (told_after result) }
+        ensures refused { OnErr result
+            ((directed : Directed) × N.Answers nodes.old directed.node slot moment directed.call
+            (Refused OutOfMemory) nodes.new) }
         ensures sound { IfOk result (IsSoundAfter self.now.shards (stream_of self.now)) }
         ensures shape { N.shape nodes.new ≡ N.shape nodes.old }
     {
@@ -178,8 +187,11 @@ impl Route {
         requires stream { RunsIn (N.shape nodes.old) self.now.shards (stream_of self.now) }
         ensures called { (directed : Directed) × (reply : NodeReply)
             × N.Answers nodes.old directed.node slot moment directed.call reply nodes.new
-            × IsStepFrom self.now.shards (stream_of self.now) (Carrying entry (length entry.near)) directed reply (told_after result) }
-        ensures refused { OnErr result ((directed : Directed) × N.Answers nodes.old directed.node slot moment directed.call (Refused OutOfMemory) nodes.new) }
+            × IsStepFrom self.now.shards (stream_of self.now)
+            (Carrying entry (length entry.near)) directed reply (told_after result) }
+        ensures refused { OnErr result
+            ((directed : Directed) × N.Answers nodes.old directed.node slot moment directed.call
+            (Refused OutOfMemory) nodes.new) }
         ensures sound { IfOk result (IsSoundAfter self.now.shards (stream_of self.now)) }
         ensures shape { N.shape nodes.new ≡ N.shape nodes.old }
     {
@@ -207,8 +219,11 @@ impl Route {
         requires stream { RunsIn (N.shape nodes.old) self.now.shards (stream_of self.now) }
         ensures called { (directed : Directed) × (reply : NodeReply)
             × N.Answers nodes.old directed.node slot moment directed.call reply nodes.new
-            × IsStepFrom self.now.shards (stream_of self.now) (Stored pair fresh) directed reply (told_after result) }
-        ensures refused { OnErr result ((directed : Directed) × N.Answers nodes.old directed.node slot moment directed.call (Refused OutOfMemory) nodes.new) }
+            × IsStepFrom self.now.shards (stream_of self.now) (Stored pair fresh) directed reply
+            (told_after result) }
+        ensures refused { OnErr result
+            ((directed : Directed) × N.Answers nodes.old directed.node slot moment directed.call
+            (Refused OutOfMemory) nodes.new) }
         ensures sound { IfOk result (IsSoundAfter self.now.shards (stream_of self.now)) }
         ensures shape { N.shape nodes.new ≡ N.shape nodes.old }
     {
@@ -220,7 +235,8 @@ impl Route {
 
 /// Returns the end that the reply to a check of a near pair causes, unless the pair is committed.
 fn end_of_check(pair: Pair, reply: &NodeReply) -> Option<Delivery>
-    ensures { (shards : ℕ) (stream : Stream) → result ≡ end_of shards stream (DepCheck pair.key pair.version) reply.now }
+    ensures { (shards : ℕ) (stream : Stream) →
+        result ≡ end_of shards stream (DepCheck pair.key pair.version) reply.now }
 {
     match reply {
         NodeReply::Checked(true) => None,
@@ -232,7 +248,8 @@ fn end_of_check(pair: Pair, reply: &NodeReply) -> Option<Delivery>
 
 /// Returns what follows the commit of the pair.
 fn after_commit(pair: Pair, reply: &NodeReply) -> After
-    ensures follows { (shards : ℕ) (stream : Stream) (entry : EntryParts) → pair ≡ pair_of_entry entry →
+    ensures follows { (shards : ℕ) (stream : Stream) (entry : EntryParts) →
+        pair ≡ pair_of_entry entry →
         FollowsReply shards stream (Carrying entry (length entry.near)) reply.now result }
     ensures sound { (shards : ℕ) (stream : Stream) → IsSoundAfter shards stream result }
 {
@@ -247,7 +264,8 @@ fn after_commit(pair: Pair, reply: &NodeReply) -> After
 
 /// Returns what follows the acknowledgement of the pair.
 fn after_acknowledge(pair: Pair, fresh: bool, reply: &NodeReply) -> After
-    ensures follows { (shards : ℕ) (stream : Stream) → FollowsReply shards stream (Stored pair fresh) reply.now result }
+    ensures follows { (shards : ℕ) (stream : Stream) →
+        FollowsReply shards stream (Stored pair fresh) reply.now result }
     ensures sound { (shards : ℕ) (stream : Stream) → IsSoundAfter shards stream result }
 {
     match reply {

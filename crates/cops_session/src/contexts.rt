@@ -22,12 +22,15 @@ pub(crate) fn prepare_put(
     limit: u64,
 ) -> Result<(Deps, Near), RequestError>
     requires { IsOpen handle contexts.old.rows }
-    ensures lists { IfOk result (λ lists. (opens : List OpenContext) → ContextsStandFor contexts.old.rows opens →
+    ensures lists { IfOk result (λ lists. (opens : List OpenContext) →
+        ContextsStandFor contexts.old.rows opens →
         (lists.0 ≡ all_of (obs_in handle opens)) × (lists.1 ≡ near_of (obs_in handle opens))) }
-    ensures stands { OnOk result ((opens : List OpenContext) → ContextsStandFor contexts.old.rows opens → ContextsStandFor contexts.new.rows opens) }
+    ensures stands { OnOk result ((opens : List OpenContext) →
+        ContextsStandFor contexts.old.rows opens → ContextsStandFor contexts.new.rows opens) }
     ensures room { OnOk result (HasRoomInContext handle key.now contexts.new.rows) }
     ensures told { (opens : List OpenContext) → ContextsStandFor contexts.old.rows opens →
-        refused_if (not (can_put limit (obs_in handle opens) key.now)) DependenciesFull ≡ told_refusal result }
+        refused_if (not (can_put limit (obs_in handle opens) key.now)) DependenciesFull
+        ≡ told_refusal result }
     ensures numbers { contexts.new ≡ record contexts.old { rows = contexts.new.rows } }
     ensures err { OnErr result (contexts.new ≡ contexts.old) }
 {
@@ -53,8 +56,10 @@ pub(crate) fn see_reads(
     limit: u64,
 ) -> Result<(), RequestError>
     requires { IsOpen handle contexts.old.rows }
-    ensures stands { OnOk result ((opens : List OpenContext) → ContextsStandFor contexts.old.rows opens →
-        ContextsStandFor contexts.new.rows (context_extended handle (observations_of reads.now) opens)) }
+    ensures stands { OnOk result ((opens : List OpenContext) →
+        ContextsStandFor contexts.old.rows opens →
+        ContextsStandFor contexts.new.rows
+        (context_extended handle (observations_of reads.now) opens)) }
     ensures told { (opens : List OpenContext) → ContextsStandFor contexts.old.rows opens →
         AnswersWithin (can_observe limit (obs_in handle opens) (observations_of reads.now)) result }
     ensures numbers { contexts.new ≡ record contexts.old { rows = contexts.new.rows } }

@@ -32,5 +32,6 @@ impl Kind for Running {
 
 /// Theorem: no bytes are both a handle of a context and one of a request.
 pub fn handles_are_of_one_kind()
-    ensures { (context request : ℕ) → wire_of context_tag context ≡ wire_of request_tag request → ⊥ }
+    ensures { (context request : ℕ) → wire_of context_tag context ≡ wire_of request_tag request →
+        ⊥ }
 {}

@@ -50,7 +50,9 @@ fn is_late(start: Option<u64>, moment: u64, trans_time: u64) -> bool
 
 /// Starts another attempt, unless the restarts are used up.
 fn begin_again(round: FirstRound, restarts: u64, limit: u64) -> Came
-    ensures { result ≡ (if nat_lt restarts limit then Restarted (record { restarts = restarts + 1; start = None; round = First round }) else Failed Overrun) }
+    ensures { result ≡ (if nat_lt restarts limit
+        then Restarted (record { restarts = restarts + 1; start = None; round = First round })
+        else Failed Overrun) }
 {
     if restarts < limit {
         Came::Restarted(Reading {
@@ -74,9 +76,11 @@ fn read_second<N: Nodes>(
 ) -> Result<ReadStep, AllocError>
     requires among { IsAmong (N.shape nodes.old) setting }
     requires in_time { is_past setting.trans_time start moment ≡ false }
-    ensures turned { TurnsFrom (λ id call reply. N.Answers nodes.old id setting.slot moment call reply nodes.new) (nodes.new ≡ nodes.old)
+    ensures turned { TurnsFrom (λ id call reply.
+        N.Answers nodes.old id setting.slot moment call reply nodes.new) (nodes.new ≡ nodes.old)
         setting (record { restarts = restarts; start = start; round = Second round }) moment result }
-    ensures once { (id : NodeId) × (call : NodeCall) × (reply : NodeReply) × N.Answers nodes.old id setting.slot moment call reply nodes.new }
+    ensures once { (id : NodeId) × (call : NodeCall) × (reply : NodeReply)
+        × N.Answers nodes.old id setting.slot moment call reply nodes.new }
     ensures shape { N.shape nodes.new ≡ N.shape nodes.old }
 {
     let started = Some(start.unwrap_or(moment));
@@ -138,9 +142,11 @@ pub(crate) fn read_next<N: Nodes>(
 ) -> Result<(), RequestError>
     requires among { IsAmong (N.shape nodes.old) setting }
     requires reads_on { GetReadsOn setting.trans_time moment reading.old }
-    ensures turned { TurnsFrom (λ id call reply. N.Answers nodes.old id setting.slot moment call reply nodes.new) (nodes.new ≡ nodes.old)
+    ensures turned { TurnsFrom (λ id call reply.
+        N.Answers nodes.old id setting.slot moment call reply nodes.new) (nodes.new ≡ nodes.old)
         setting reading.old moment (turned_in_place moment reading.new result) }
-    ensures once { (id : NodeId) × (call : NodeCall) × (reply : NodeReply) × N.Answers nodes.old id setting.slot moment call reply nodes.new }
+    ensures once { (id : NodeId) × (call : NodeCall) × (reply : NodeReply)
+        × N.Answers nodes.old id setting.slot moment call reply nodes.new }
     ensures shape { N.shape nodes.new ≡ N.shape nodes.old }
 {
     let started = Some(reading.start.unwrap_or(moment));
@@ -157,7 +163,8 @@ pub(crate) fn read_next<N: Nodes>(
 impl Round {
     /// Returns the first round, restarted.
     fn restart(self) -> FirstRound
-        ensures { (keys : List (List ℕ)) (replies : List NodeReply) → RoundStandsFor keys replies self → IsFirstOf keys [] result }
+        ensures { (keys : List (List ℕ)) (replies : List NodeReply) →
+            RoundStandsFor keys replies self → IsFirstOf keys [] result }
     {
         match self {
             Round::First(round) => round.restart(),
@@ -176,9 +183,12 @@ pub(crate) fn read_step<N: Nodes>(
 ) -> Result<ReadStep, AllocError>
     requires among { IsAmong (N.shape nodes.old) setting }
     requires other { GetReadsFirst setting.trans_time moment reading → ⊥ }
-    ensures turned { TurnsFrom (λ id call reply. N.Answers nodes.old id setting.slot moment call reply nodes.new) (nodes.new ≡ nodes.old)
+    ensures turned { TurnsFrom (λ id call reply.
+        N.Answers nodes.old id setting.slot moment call reply nodes.new) (nodes.new ≡ nodes.old)
         setting reading moment result }
-    ensures once { (nodes.new ≡ nodes.old) ⊎ ((id : NodeId) × (call : NodeCall) × (reply : NodeReply) × N.Answers nodes.old id setting.slot moment call reply nodes.new) }
+    ensures once { (nodes.new ≡ nodes.old)
+        ⊎ ((id : NodeId) × (call : NodeCall) × (reply : NodeReply)
+        × N.Answers nodes.old id setting.slot moment call reply nodes.new) }
     ensures shape { N.shape nodes.new ≡ N.shape nodes.old }
 {
     let Reading {

@@ -96,7 +96,8 @@ impl Session {
     pub fn of_tenant(alloc: Global, config: &Config, tenant: &Tenant, slot: u64, dc: u64) -> Self
         requires dc { dc < config.now.data_centres }
         requires shards { 0 < config.now.shards }
-        ensures stands { SessionStandsFor (tenant_config config.now tenant.now) result (new_session dc 1) }
+        ensures stands { SessionStandsFor (tenant_config config.now tenant.now) result
+            (new_session dc 1) }
         ensures slot { result.setting.slot ≡ slot }
     {
         Session::of_tenant_starting_at(alloc, config, tenant, slot, dc, 1)
@@ -126,7 +127,8 @@ impl Session {
     ) -> Self
         requires dc { dc < config.now.data_centres }
         requires shards { 0 < config.now.shards }
-        ensures stands { SessionStandsFor (tenant_config config.now tenant.now) result (new_session dc first) }
+        ensures stands { SessionStandsFor (tenant_config config.now tenant.now) result
+            (new_session dc first) }
         ensures slot { result.setting.slot ≡ slot }
     {
         let quota = tenant.quota;
@@ -159,9 +161,13 @@ impl Session {
 
     /// Opens an empty context. Is refused if too many are open or their numbers are exhausted.
     pub fn create_context(&mut self) -> Result<Handle<Contexts>, RequestError>
-        ensures created { (config : TenantConfig) (session : SoloSession) → SessionStandsFor config self.old session →
-            IfOk result (λ handle. (handle ≡ session.next_context) × SessionStandsFor config self.new (context_created session)) }
-        ensures told { (config : TenantConfig) (session : SoloSession) → SessionStandsFor config self.old session → create_refusal config session ≡ told_refusal result }
+        ensures created { (config : TenantConfig) (session : SoloSession) →
+            SessionStandsFor config self.old session →
+            IfOk result (λ handle. (handle ≡ session.next_context)
+            × SessionStandsFor config self.new (context_created session)) }
+        ensures told { (config : TenantConfig) (session : SoloSession) →
+            SessionStandsFor config self.old session →
+            create_refusal config session ≡ told_refusal result }
         ensures setting { self.new.setting ≡ self.old.setting }
         ensures err { OnErr result (self.new ≡ self.old) }
     {
@@ -177,10 +183,13 @@ impl Session {
     /// Closes a context and its number. Fails with a `Fault` if the context is not open or a
     /// request runs.
     pub fn delete_context(&mut self, handle: Handle<Contexts>) -> Result<(), Fault>
-        ensures deleted { (config : TenantConfig) (session : SoloSession) → SessionStandsFor config self.old session →
+        ensures deleted { (config : TenantConfig) (session : SoloSession) →
+            SessionStandsFor config self.old session →
             OnOk result (SessionStandsFor config self.new (context_deleted handle session)) }
-        ensures refused { (config : TenantConfig) (session : SoloSession) → SessionStandsFor config self.old session →
-            MatchResult result (λ _. context_refusal handle session ≡ None) (λ fault. context_refusal handle session ≡ Some fault) }
+        ensures refused { (config : TenantConfig) (session : SoloSession) →
+            SessionStandsFor config self.old session →
+            MatchResult result (λ _. context_refusal handle session ≡ None)
+            (λ fault. context_refusal handle session ≡ Some fault) }
         ensures setting { self.new.setting ≡ self.old.setting }
         ensures err { OnErr result (self.new ≡ self.old) }
     {
@@ -195,10 +204,13 @@ impl Session {
 
     /// Returns an open context. Fails with a `Fault` if it is not open.
     pub fn context(&self, handle: Handle<Contexts>) -> Result<&Context, Fault>
-        ensures stands { (config : TenantConfig) (session : SoloSession) → SessionStandsFor config self.now session →
+        ensures stands { (config : TenantConfig) (session : SoloSession) →
+            SessionStandsFor config self.now session →
             IfOk result (λ context. ListsStandFor context.now (obs_of handle session)) }
-        ensures refused { (config : TenantConfig) (session : SoloSession) → SessionStandsFor config self.now session →
-            MatchResult result (λ _. context_refusal handle session ≡ None) (λ fault. context_refusal handle session ≡ Some fault) }
+        ensures refused { (config : TenantConfig) (session : SoloSession) →
+            SessionStandsFor config self.now session →
+            MatchResult result (λ _. context_refusal handle session ≡ None)
+            (λ fault. context_refusal handle session ≡ Some fault) }
     {
         if self.running.is_some() {
             return Err(Fault::Busy);
@@ -208,7 +220,9 @@ impl Session {
 
     /// Returns why a put of this key is refused, if it is. Allocates nothing.
     pub fn put_refusal(&self, handle: Handle<Contexts>, key: &Key) -> Option<Fault>
-        ensures { (config : TenantConfig) (session : SoloSession) → SessionStandsFor config self.now session → result ≡ session_put_refusal config handle key.now session }
+        ensures { (config : TenantConfig) (session : SoloSession) →
+            SessionStandsFor config self.now session →
+            result ≡ session_put_refusal config handle key.now session }
     {
         match self.context(handle) {
             Ok(seen) => {
@@ -225,7 +239,9 @@ impl Session {
     /// Returns why a get transaction over keys of these bytes is refused, if it is. Allocates
     /// nothing.
     pub fn get_refusal(&self, handle: Handle<Contexts>, keys: &ByteSlices) -> Option<Fault>
-        ensures { (config : TenantConfig) (session : SoloSession) → SessionStandsFor config self.now session → result ≡ get_refusal config handle keys.now session }
+        ensures { (config : TenantConfig) (session : SoloSession) →
+            SessionStandsFor config self.now session →
+            result ≡ get_refusal config handle keys.now session }
     {
         if keys.is_empty() {
             return Some(Fault::Syntax);
@@ -244,7 +260,9 @@ impl Session {
 
     /// Returns the handle of the running request.
     pub fn running(&self) -> Option<Handle<Running>>
-        ensures { (config : TenantConfig) (session : SoloSession) → SessionStandsFor config self.now session → result ≡ option_map (λ running. running.number) session.running }
+        ensures { (config : TenantConfig) (session : SoloSession) →
+            SessionStandsFor config self.now session →
+            result ≡ option_map (λ running. running.number) session.running }
     {
         match &self.running {
             Some(ongoing) => Some(Handle::of_number(ongoing.number)),
@@ -260,9 +278,13 @@ impl Session {
         key: Key,
         value: Value,
     ) -> Result<Handle<Running>, RequestError>
-        ensures begun { (config : TenantConfig) (session : SoloSession) → SessionStandsFor config self.old session →
-            IfOk result (λ number. (number ≡ session.next_request) × SessionStandsFor config self.new (request_begun handle (Write key value) session)) }
-        ensures told { (config : TenantConfig) (session : SoloSession) → SessionStandsFor config self.old session → session_put_refusal config handle key session ≡ told_refusal result }
+        ensures begun { (config : TenantConfig) (session : SoloSession) →
+            SessionStandsFor config self.old session →
+            IfOk result (λ number. (number ≡ session.next_request)
+            × SessionStandsFor config self.new (request_begun handle (Write key value) session)) }
+        ensures told { (config : TenantConfig) (session : SoloSession) →
+            SessionStandsFor config self.old session →
+            session_put_refusal config handle key session ≡ told_refusal result }
         ensures setting { self.new.setting ≡ self.old.setting }
         ensures err { OnErr result (self.new ≡ self.old) }
     {
@@ -299,9 +321,13 @@ impl Session {
         handle: Handle<Contexts>,
         keys: &[Key],
     ) -> Result<Handle<Running>, RequestError>
-        ensures begun { (config : TenantConfig) (session : SoloSession) → SessionStandsFor config self.old session →
-            IfOk result (λ number. (number ≡ session.next_request) × SessionStandsFor config self.new (request_begun handle (Fetch keys.now) session)) }
-        ensures told { (config : TenantConfig) (session : SoloSession) → SessionStandsFor config self.old session → get_refusal config handle keys.now session ≡ told_refusal result }
+        ensures begun { (config : TenantConfig) (session : SoloSession) →
+            SessionStandsFor config self.old session →
+            IfOk result (λ number. (number ≡ session.next_request)
+            × SessionStandsFor config self.new (request_begun handle (Fetch keys.now) session)) }
+        ensures told { (config : TenantConfig) (session : SoloSession) →
+            SessionStandsFor config self.old session →
+            get_refusal config handle keys.now session ≡ told_refusal result }
         ensures setting { self.new.setting ≡ self.old.setting }
         ensures err { OnErr result (self.new ≡ self.old) }
     {
@@ -362,18 +388,24 @@ impl Session {
     ) -> Result<Progress, RequestError>
         requires data_centres { self.old.setting.data_centres ≡ (N.shape nodes.old).data_centres }
         requires shards { self.old.setting.shards ≡ (N.shape nodes.old).shards }
-        ensures stepped { (config : TenantConfig) (session : SoloSession) → SessionStandsFor config self.old session → MatchResult (told_step result)
-            (λ told. (running : SoloRunning) × (session.running ≡ Some running) × (running.number ≡ handle)
-            × TellsNext (λ id call reply. N.Answers nodes.old id self.old.setting.slot (moment_at moment session) call reply nodes.new) (nodes.new ≡ nodes.old)
-            config session running (moment_at moment session) told self.new (next config (request_of session running) running.log (moment_at moment session)))
+        ensures stepped { (config : TenantConfig) (session : SoloSession) →
+            SessionStandsFor config self.old session → MatchResult (told_step result)
+            (λ told. (running : SoloRunning) × (session.running ≡ Some running)
+            × (running.number ≡ handle)
+            × TellsNext (λ id call reply. N.Answers nodes.old id self.old.setting.slot
+            (moment_at moment session) call reply nodes.new) (nodes.new ≡ nodes.old)
+            config session running (moment_at moment session) told self.new
+            (next config (request_of session running) running.log (moment_at moment session)))
             (λ fault. (fault ≡ Fault.Idle) × (runs handle session ≡ false)) }
         ensures once { (nodes.new ≡ nodes.old)
-            ⊎ ((id : NodeId) × (at : ℕ) × (call : NodeCall) × (reply : NodeReply) × N.Answers nodes.old id self.old.setting.slot at call reply nodes.new) }
+            ⊎ ((id : NodeId) × (at : ℕ) × (call : NodeCall) × (reply : NodeReply)
+            × N.Answers nodes.old id self.old.setting.slot at call reply nodes.new) }
         ensures shape { N.shape nodes.new ≡ N.shape nodes.old }
         ensures setting { self.new.setting ≡ self.old.setting }
         ensures idle { OnRefusal result (self.new ≡ self.old) }
         ensures idle_nodes { OnRefusal result (nodes.new ≡ nodes.old) }
-        ensures lack { OnOutOfMemory result (self.new ≡ record self.old { moment = self.new.moment; running = None }) }
+        ensures lack { OnOutOfMemory result
+            (self.new ≡ record self.old { moment = self.new.moment; running = None }) }
     {
         if !self.runs(handle) {
             return Err(RequestError::Refused(Fault::Idle));
@@ -412,8 +444,11 @@ impl Session {
 
     /// Returns `true` if the step at this timestamp is a read of a first round, in time.
     fn reads_first(&self, moment: u64) -> bool
-        ensures reads { IsTrue result → ReadsFirst self.now.setting.trans_time (max self.now.moment moment) self.now.running }
-        ensures other { result ≡ false → ReadsFirst self.now.setting.trans_time (max self.now.moment moment) self.now.running → ⊥ }
+        ensures reads { IsTrue result →
+            ReadsFirst self.now.setting.trans_time (max self.now.moment moment) self.now.running }
+        ensures other { result ≡ false →
+            ReadsFirst self.now.setting.trans_time (max self.now.moment moment) self.now.running →
+            ⊥ }
     {
         match &self.running {
             Some(ongoing) => match &ongoing.work {
@@ -428,7 +463,9 @@ impl Session {
 
     /// Returns `true` if another read of the first round follows the next one.
     fn has_more(&self) -> bool
-        ensures { (trans_time moment : ℕ) → IsTrue result → ReadsFirst trans_time moment self.now.running → ReadsOn trans_time moment self.now.running }
+        ensures { (trans_time moment : ℕ) → IsTrue result →
+            ReadsFirst trans_time moment self.now.running →
+            ReadsOn trans_time moment self.now.running }
     {
         match &self.running {
             Some(ongoing) => match &ongoing.work {
@@ -445,12 +482,17 @@ impl Session {
     fn read_on<N: Nodes>(&mut self, nodes: &mut N, moment: u64) -> Result<Progress, RequestError>
         requires data_centres { self.old.setting.data_centres ≡ (N.shape nodes.old).data_centres }
         requires shards { self.old.setting.shards ≡ (N.shape nodes.old).shards }
-        requires reads_on { ReadsOn self.old.setting.trans_time (max self.old.moment moment) self.old.running }
-        ensures stepped { StepsFrom (λ id at call reply. N.Answers nodes.old id self.old.setting.slot at call reply nodes.new) (nodes.new ≡ nodes.old)
+        requires reads_on { ReadsOn self.old.setting.trans_time
+            (max self.old.moment moment) self.old.running }
+        ensures stepped { StepsFrom (λ id at call reply.
+            N.Answers nodes.old id self.old.setting.slot at call reply nodes.new)
+            (nodes.new ≡ nodes.old)
             self.old moment result self.new }
         ensures taken { OnRefusal result ⊥ }
-        ensures lack { OnOutOfMemory result (self.new ≡ record self.old { moment = self.new.moment; running = None }) }
-        ensures once { (id : NodeId) × (at : ℕ) × (call : NodeCall) × (reply : NodeReply) × N.Answers nodes.old id self.old.setting.slot at call reply nodes.new }
+        ensures lack { OnOutOfMemory result
+            (self.new ≡ record self.old { moment = self.new.moment; running = None }) }
+        ensures once { (id : NodeId) × (at : ℕ) × (call : NodeCall) × (reply : NodeReply)
+            × N.Answers nodes.old id self.old.setting.slot at call reply nodes.new }
         ensures shape { N.shape nodes.new ≡ N.shape nodes.old }
         ensures setting { self.new.setting ≡ self.old.setting }
     {
@@ -484,12 +526,17 @@ impl Session {
     fn read_first<N: Nodes>(&mut self, nodes: &mut N, moment: u64) -> Result<Progress, RequestError>
         requires data_centres { self.old.setting.data_centres ≡ (N.shape nodes.old).data_centres }
         requires shards { self.old.setting.shards ≡ (N.shape nodes.old).shards }
-        requires reads_first { ReadsFirst self.old.setting.trans_time (max self.old.moment moment) self.old.running }
-        ensures stepped { StepsFrom (λ id at call reply. N.Answers nodes.old id self.old.setting.slot at call reply nodes.new) (nodes.new ≡ nodes.old)
+        requires reads_first { ReadsFirst self.old.setting.trans_time
+            (max self.old.moment moment) self.old.running }
+        ensures stepped { StepsFrom (λ id at call reply.
+            N.Answers nodes.old id self.old.setting.slot at call reply nodes.new)
+            (nodes.new ≡ nodes.old)
             self.old moment result self.new }
         ensures taken { OnRefusal result ⊥ }
-        ensures lack { OnOutOfMemory result (self.new ≡ record self.old { moment = self.new.moment; running = None }) }
-        ensures once { (id : NodeId) × (at : ℕ) × (call : NodeCall) × (reply : NodeReply) × N.Answers nodes.old id self.old.setting.slot at call reply nodes.new }
+        ensures lack { OnOutOfMemory result
+            (self.new ≡ record self.old { moment = self.new.moment; running = None }) }
+        ensures once { (id : NodeId) × (at : ℕ) × (call : NodeCall) × (reply : NodeReply)
+            × N.Answers nodes.old id self.old.setting.slot at call reply nodes.new }
         ensures shape { N.shape nodes.new ≡ N.shape nodes.old }
         ensures setting { self.new.setting ≡ self.old.setting }
     {
@@ -542,7 +589,9 @@ impl Session {
         requires shards { self.now.setting.shards ≡ (N.shape nodes.old).shards }
         requires reads_first { ReadsFirst self.now.setting.trans_time moment self.now.running }
         ensures called { (key : List ℕ)
-            × N.Answers nodes.old (record { dc = self.now.setting.dc; shard = shard_of key self.now.setting.shards }) self.now.setting.slot moment (Get key Latest) (told_reply result) nodes.new
+            × N.Answers nodes.old
+            (record { dc = self.now.setting.dc; shard = shard_of key self.now.setting.shards })
+            self.now.setting.slot moment (Get key Latest) (told_reply result) nodes.new
             × ((number context restarts : ℕ) (start : Option ℕ) (round : FirstReads) →
             self.now.running ≡ Some (record { number = number; context = context; work = work.Get (record { restarts = restarts; start = start; round = First round }) }) → IsWantedIn round key) }
         ensures shape { N.shape nodes.new ≡ N.shape nodes.old }
@@ -602,11 +651,16 @@ impl Session {
         requires shards { self.old.setting.shards ≡ (N.shape nodes.old).shards }
         requires idle { self.old.running ≡ None }
         requires ready { HasRoomInContext context writing.key self.old.contexts.rows }
-        ensures stepped { (number : ℕ) → StepsFrom (λ id at call reply. N.Answers nodes.old id self.old.setting.slot at call reply nodes.new) (nodes.new ≡ nodes.old)
+        ensures stepped { (number : ℕ) →
+            StepsFrom (λ id at call reply.
+            N.Answers nodes.old id self.old.setting.slot at call reply nodes.new)
+            (nodes.new ≡ nodes.old)
             (record self.old { running = Some (record { number = number; context = context; work = work.Put writing }) }) moment result self.new }
         ensures taken { OnRefusal result ⊥ }
-        ensures lack { OnOutOfMemory result (self.new ≡ record self.old { moment = self.new.moment; running = None }) }
-        ensures once { (id : NodeId) × (at : ℕ) × (call : NodeCall) × (reply : NodeReply) × N.Answers nodes.old id self.old.setting.slot at call reply nodes.new }
+        ensures lack { OnOutOfMemory result
+            (self.new ≡ record self.old { moment = self.new.moment; running = None }) }
+        ensures once { (id : NodeId) × (at : ℕ) × (call : NodeCall) × (reply : NodeReply)
+            × N.Answers nodes.old id self.old.setting.slot at call reply nodes.new }
         ensures shape { N.shape nodes.new ≡ N.shape nodes.old }
         ensures setting { self.new.setting ≡ self.old.setting }
     {
@@ -636,14 +690,19 @@ impl Session {
         requires data_centres { self.old.setting.data_centres ≡ (N.shape nodes.old).data_centres }
         requires shards { self.old.setting.shards ≡ (N.shape nodes.old).shards }
         requires idle { self.old.running ≡ None }
-        requires other { GetReadsFirst self.old.setting.trans_time (max self.old.moment moment) reading → ⊥ }
+        requires other { GetReadsFirst self.old.setting.trans_time
+            (max self.old.moment moment) reading → ⊥ }
         requires ready { IsOpen context self.old.contexts.rows }
-        ensures stepped { StepsFrom (λ id at call reply. N.Answers nodes.old id self.old.setting.slot at call reply nodes.new) (nodes.new ≡ nodes.old)
+        ensures stepped { StepsFrom (λ id at call reply.
+            N.Answers nodes.old id self.old.setting.slot at call reply nodes.new)
+            (nodes.new ≡ nodes.old)
             (record self.old { running = Some (record { number = number; context = context; work = work.Get reading }) }) moment result self.new }
         ensures taken { OnRefusal result ⊥ }
-        ensures lack { OnOutOfMemory result (self.new ≡ record self.old { moment = self.new.moment; running = None }) }
+        ensures lack { OnOutOfMemory result
+            (self.new ≡ record self.old { moment = self.new.moment; running = None }) }
         ensures once { (nodes.new ≡ nodes.old)
-            ⊎ ((id : NodeId) × (at : ℕ) × (call : NodeCall) × (reply : NodeReply) × N.Answers nodes.old id self.old.setting.slot at call reply nodes.new) }
+            ⊎ ((id : NodeId) × (at : ℕ) × (call : NodeCall) × (reply : NodeReply)
+            × N.Answers nodes.old id self.old.setting.slot at call reply nodes.new) }
         ensures shape { N.shape nodes.new ≡ N.shape nodes.old }
         ensures setting { self.new.setting ≡ self.old.setting }
     {
@@ -686,10 +745,14 @@ impl Session {
     fn values(&mut self, context: Handle<Contexts>, reads: Reads) -> Result<Answer, AllocError>
         requires idle { self.old.running ≡ None }
         requires ready { IsOpen context self.old.contexts.rows }
-        ensures stands { (opens : List OpenContext) → ContextsStandFor self.old.contexts.rows opens →
-            ContextsStandFor self.new.contexts.rows (context_extended context (seen_in (told_answer result)) opens) }
-        ensures answer { (opens : List OpenContext) → ContextsStandFor self.old.contexts.rows opens →
-            IfOk result (λ answer. answer ≡ values_or_full self.old.setting.deps (obs_in context opens) reads) }
+        ensures stands { (opens : List OpenContext) →
+            ContextsStandFor self.old.contexts.rows opens →
+            ContextsStandFor self.new.contexts.rows
+            (context_extended context (seen_in (told_answer result)) opens) }
+        ensures answer { (opens : List OpenContext) →
+            ContextsStandFor self.old.contexts.rows opens →
+            IfOk result (λ answer. answer ≡ values_or_full self.old.setting.deps
+            (obs_in context opens) reads) }
         ensures err { OnErr result (self.new ≡ self.old) }
         ensures others { self.new ≡ record self.old { contexts = record self.old.contexts { rows = self.new.contexts.rows } } }
     {

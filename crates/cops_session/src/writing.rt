@@ -48,7 +48,9 @@ pub(crate) fn write_step<N: Nodes>(
 ) -> Result<Pair, RequestError>
     requires among { IsAmong (N.shape nodes.old) setting }
     ensures called { (reply : NodeReply)
-        × N.Answers nodes.old (record { dc = setting.dc; shard = shard_of writing.key setting.shards }) setting.slot moment (Put writing.key writing.value writing.deps writing.near) reply nodes.new
+        × N.Answers nodes.old
+        (record { dc = setting.dc; shard = shard_of writing.key setting.shards }) setting.slot
+        moment (Put writing.key writing.value writing.deps writing.near) reply nodes.new
         × (told_put result ≡ answer_to_put writing.key reply) }
     ensures shape { N.shape nodes.new ≡ N.shape nodes.old }
 {
