@@ -1,4 +1,5 @@
 //! Cached indices: where each actor was last in the table.
+ghost use Rattle.std.specs.Prelude.{◌≡◌, ◌<◌, replicate, slice_index_or, slice_set, IfOk};
 
 use crate::actors::ActorId;
 use std::alloc::{AllocError, Global};
@@ -15,21 +16,27 @@ pub struct Guesses {
 
 impl Guesses {
     /// Creates a cache that says nothing yet.
-    pub(crate) fn new(alloc: Global) -> Result<Self, AllocError> {
+    pub(crate) fn new(alloc: Global) -> Result<Self, AllocError>
+        ensures { IfOk result (λ guesses. guesses.places.items ≡ replicate GUESSES 0) }
+    {
         Ok(Guesses {
             places: vec![in alloc; 0; GUESSES]?,
         })
     }
 
     /// Returns the entry of an actor.
-    pub(crate) fn cell_of(id: &ActorId) -> usize {
+    pub(crate) fn cell_of(id: &ActorId) -> usize
+        ensures { result < GUESSES }
+    {
         let mut hasher = FoldHasher::default();
         id.hash(&mut hasher);
         hasher.finish() as usize % GUESSES
     }
 
     /// Returns the cached index of an entry.
-    pub(crate) fn guess(&self, cell: usize) -> usize {
+    pub(crate) fn guess(&self, cell: usize) -> usize
+        ensures { result ≡ slice_index_or self.now.places.items cell 0 }
+    {
         match self.places.get(cell) {
             Some(place) => *place,
             None => 0,
@@ -37,7 +44,9 @@ impl Guesses {
     }
 
     /// Sets the cached index of an entry.
-    pub(crate) fn note(&mut self, cell: usize, place: usize) {
+    pub(crate) fn note(&mut self, cell: usize, place: usize)
+        ensures { self.new.places.items ≡ slice_set self.old.places.items cell place }
+    {
         if let Some(guess) = self.places.get_mut(cell) {
             *guess = place;
         }
