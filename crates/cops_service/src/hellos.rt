@@ -1,9 +1,13 @@
 //! The first bytes of a connection, which are read before its tenant is looked up.
-ghost use Rattle.std.specs.Prelude.{◌≡◌, ◌≤◌, IfOk};
+ghost use Rattle.std.specs.Prelude.{◌≡◌, ◌≤◌, ◌⊎◌, IfErr, IfOk};
+ghost use Rattle.cops_types.specs.declared.faults.Fault.TheVariants.{ReadFault};
+ghost use Rattle.cops_types.specs.declared.request_errors.RequestError.TheVariants.{OutOfMemory, Refused};
+ghost use Rattle.cops_wire.specs.Streams.{split_of};
+ghost use Rattle.cops_service.specs.Hellos.{first_token};
 
 use crate::lines::{Incoming, Line};
 use cops_types::{Fault, RequestError};
-use cops_wire::{Decoder, Fed, Message};
+use cops_wire::{Decoder, Message};
 use std::alloc::Global;
 use std::io::Read;
 use std::time::Clock;
@@ -20,7 +24,8 @@ pub(crate) struct Opened {
 
 // Reads once, and returns the number of bytes; 0 at the end of the input.
 fn read_some<R: Read>(reader: &mut R, piece: &mut [u8; HELLO]) -> Result<usize, RequestError>
-    ensures { IfOk result (λ count. count ≤ HELLO) }
+    ensures count { IfOk result (λ count. count ≤ HELLO) }
+    ensures failed { IfErr result (λ error. error ≡ Refused ReadFault) }
 {
     match reader.read(piece) {
         Ok(count) => Ok(count),
@@ -28,19 +33,22 @@ fn read_some<R: Read>(reader: &mut R, piece: &mut [u8; HELLO]) -> Result<usize, 
     }
 }
 
-// Returns the token of a Hello that came first.
-fn token_in(fed: &Fed) -> Option<[u8; 16]> {
-    match fed.messages.first() {
+// Returns the token of a Hello that comes first.
+fn token_in(messages: &[Message]) -> Option<[u8; 16]>
+    ensures { result ≡ first_token messages.now }
+{
+    match messages.first() {
         Some(Message::Hello(token, _)) => Some(*token),
         _ => None,
     }
 }
 
-/// Reads until a connection's first message is there, or as many bytes as a Hello has: a longer message doesn't greet.
-pub(crate) fn open_line<C: Clock>(
-    alloc: Global,
-    line: &Line<'_, C>,
-) -> Result<Opened, RequestError> {
+/// Reads until a connection's first message is there, or as many bytes as a Hello has: a longer message doesn't greet. The token
+/// is that of the bytes.
+pub(crate) fn open_line<C: Clock>(alloc: Global, line: &Line<'_, C>) -> Result<Opened, RequestError>
+    ensures token { IfOk result (λ opened. opened.token ≡ first_token (split_of opened.bytes.items).messages) }
+    ensures failed { IfErr result (λ error. (error ≡ OutOfMemory) ⊎ (error ≡ Refused ReadFault)) }
+{
     let mut incoming = Incoming { line };
     let mut decoder = Decoder::new(alloc);
     let mut bytes = Vec::new(alloc);
@@ -52,7 +60,7 @@ pub(crate) fn open_line<C: Clock>(
         if count == 0 || fed.broken || !fed.messages.is_empty() || bytes.len() >= HELLO {
             return Ok(Opened {
                 bytes,
-                token: token_in(&fed),
+                token: token_in(fed.messages.as_slice()),
             });
         }
     }

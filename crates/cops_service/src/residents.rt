@@ -1,6 +1,7 @@
 //! The tenants that clients may be greeted as.
-ghost use Rattle.std.specs.Prelude.{◌≡◌, ◌&&◌, ◌==◌};
+ghost use Rattle.std.specs.Prelude.{◌≡◌, ◌<◌, ◌≤◌, ◌++◌, ◌∷◌, ◌&&◌, ◌==◌, ℕ, [], slice_get, IfSome, Some};
 ghost use Rattle.std.specs.List.{list_any};
+ghost use Rattle.std.specs.Vec.{vec_capacity, vec_len};
 
 use crate::roster::Life;
 use cops_types::{Config, Tenant};
@@ -28,7 +29,12 @@ pub(crate) struct Residents {
 }
 
 // Enters a tenant, if there is room.
-fn enter(residents: &mut Vec<Resident>, resident: Resident) {
+fn enter(residents: &mut Vec<Resident>, resident: Resident)
+    ensures added { vec_len residents.old < vec_capacity residents.old →
+        residents.new.items ≡ residents.old.items ++ resident ∷ [] }
+    ensures full { vec_capacity residents.old ≤ vec_len residents.old →
+        residents.new.items ≡ residents.old.items }
+{
     if residents.len() < residents.capacity() {
         residents.push_reserved(resident);
     }
@@ -40,6 +46,19 @@ fn is_among(residents: &[Resident], life: Life) -> bool
         && (resident.life.number == life.number)) residents.now }
 {
     residents.iter().any(|resident| resident.life == life)
+}
+
+// Returns the first of these tenants with this token.
+fn with_token(residents: &[Resident], token: &[u8; 16]) -> Option<Resident>
+    ensures found { IfSome result (λ resident. resident.tenant.token ≡ token.now) }
+    ensures one { IfSome result (λ resident. (k : ℕ) × (slice_get residents.now k ≡ Some resident)) }
+{
+    for resident in residents {
+        if resident.tenant.token.as_bytes() == token {
+            return Some(*resident);
+        }
+    }
+    None
 }
 
 impl Residents {
@@ -91,11 +110,6 @@ impl Residents {
 
     /// Returns the tenant with this token.
     pub(crate) fn find<R: Wait>(&self, rt: &R, token: &[u8; 16]) -> Option<Resident> {
-        for resident in self.residents.lock(rt).as_slice() {
-            if resident.tenant.token.as_bytes() == token {
-                return Some(*resident);
-            }
-        }
-        None
+        with_token(self.residents.lock(rt).as_slice(), token)
     }
 }

@@ -1,5 +1,5 @@
 //! Counts of frames.
-ghost use Rattle.std.specs.Prelude.{◌≡◌, ◌<◌, false, length};
+ghost use Rattle.std.specs.Prelude.{◌≡◌, ◌≢◌, ◌-◌, ◌<◌, ◌⊎◌, false, length, IsFalse, IsTrue};
 ghost use Rattle.cops_service.specs.Tallies.{after, measured, seen};
 
 /// The tag of a refusal.
@@ -50,6 +50,27 @@ impl Tally {
             }
             rest = self.step(rest);
         }
+    }
+
+    /// Returns how many requests the frames answer. The first one answers the greeting, and the last one of a torn connection
+    /// no request.
+    pub(crate) fn requests(&self, is_torn: bool) -> u64
+        ensures clean { IsFalse is_torn → result ≡ self.now.frames - 1 }
+        ensures torn { IsTrue is_torn → result ≡ self.now.frames - 2 }
+    {
+        let others = if is_torn { 2 } else { 1 };
+        self.frames.saturating_sub(others)
+    }
+
+    /// Returns how many of these requests are refused.
+    pub(crate) fn refused_requests(&self, is_torn: bool) -> u64
+        ensures torn { IsTrue is_torn → result ≡ self.now.refusals - 1 }
+        ensures greeting { self.now.frames ≡ 1 → self.now.refusals ≡ 1 → result ≡ 0 }
+        ensures clean { IsFalse is_torn → (self.now.frames ≢ 1) ⊎ (self.now.refusals ≢ 1) → result ≡ self.now.refusals }
+    {
+        let is_greeting_refused = self.frames == 1 && self.refusals == 1;
+        let others = if is_torn || is_greeting_refused { 1 } else { 0 };
+        self.refusals.saturating_sub(others)
     }
 
     // Passes a byte of a length, or the present part of a body. Returns the bytes after it.

@@ -121,15 +121,8 @@ pub(crate) fn conclude<L: Reports>(
     course: Course,
     ended: &Result<Ended, RequestError>,
 ) {
-    // The first frame answers the greeting, and the last one of a torn connection no request.
     let is_torn = matches!(ended, Ok(Ended::Torn));
-    let others = if is_torn { 2 } else { 1 };
-    let is_greeting_refused = tally.frames == 1 && tally.refusals == 1;
-    let other_refusals = if is_torn || is_greeting_refused { 1 } else { 0 };
-    totals.add(
-        tally.frames.saturating_sub(others),
-        tally.refusals.saturating_sub(other_refusals),
-    );
+    totals.add(tally.requests(is_torn), tally.refused_requests(is_torn));
     if let Some(cause) = cause_of(ended, course) {
         reports.ended(peer, cause);
     }
