@@ -19,7 +19,7 @@ use Rattle.cops_replay.specs.WrittenAudits.{AllReplaySame, HaveLines, SaysSame}
 use Rattle.cops_replay.proofs.NodesOf.{nodes_with_sites}
 use Rattle.cops_service.specs.Left.{AreLeft}
 use Rattle.cops_service.proofs.Told.{left_count, left_in_place}
-use Rattle.cops_cli.specs.Commands.{AreServed, HasHead, MayEnd, MayFail, Streams, serving}
+use Rattle.cops_cli.specs.Commands.{AreServedForHead, HasHead, MayEnd, MayFail, Streams, serving}
 use Rattle.cops_cli.specs.Faults.{ended_serving_by}
 use Rattle.cops_cli.specs.declared.faults.CliFault.{CliFault}
 use Rattle.cops_cli.specs.declared.faults.CliFault.TheVariants.{OutOfMemory, ReadFault, WriteFault, Torn}
@@ -41,7 +41,7 @@ says_for (Some bytes) config nodes head says = says (lines_of bytes) head.0 head
 pub served_from : (known : Option (List ℕ)) (config : Config) (nodes : List Shared)
     → IfSome known (λ bytes. (lines : List (List ℕ)) × (head_of (lines_of bytes) ≡ Whole config lines)) → AreLeft (new_nodes config).nodes nodes → AllReplaySame config (his_nodes config nodes)
     → ((lines rest : List (List ℕ)) → head_of lines ≡ Whole config rest → HaveLines config (his_nodes config nodes) → SaysSame config (his_nodes config nodes) (audit_of config nodes))
-    → AreServed known config nodes
+    → AreServedForHead known config nodes
 served_from known config nodes head left replays says = record { head = head; left = left; replays = replays; says_same = says_for known config nodes head says }
 
 pub keeps : (known : Option (List ℕ)) → Keeps known known
@@ -54,19 +54,16 @@ head_is None config head = tt
 head_is (Some bytes) config head = (config, head.0, head.1)
 
 -- a service that ends before anything is written
-pub ends_early : (old new : Streams) (ended : CliFault) → new.contents ≡ old.contents → IfSome old.remaining HasHead → (ended ≡ OutOfMemory) ⊎ ((ended ≡ ReadFault) ⊎ (ended ≡ Torn)) → MayFail serving old new ended
+pub ends_early : (old new : Streams) (ended : CliFault) → new.contents ≡ old.contents → IfSome old.remaining HasHead → (ended ≡ OutOfMemory) ⊎ (ended ≡ ReadFault) → MayFail serving old new ended
 ends_early old new ended same head stopped =
     let kept : Keeps old.contents new.contents = subst (Keeps old.contents) (sym same) (keeps old.contents) in
     elim stopped [
       | inl lack ↦ subst (MayFail serving old new) (sym lack) (record { why = inl tt; begun = inl kept })
-      | inr others ↦ elim others [
-        | inl failed ↦ subst (MayFail serving old new) (sym failed) (record { why = inr (inl (head, kept)); begun = inl kept })
-        | inr torn ↦ subst (MayFail serving old new) (sym torn) (record { why = inr (head, kept); begun = inl kept })
-      ]
+      | inr failed ↦ subst (MayFail serving old new) (sym failed) (record { why = inr (inl (head, kept)); begun = inl kept })
     ]
 
 -- the audit is written, or a prefix of it
-pub concludes : {T : Type 0} → (old new : Streams) (result : Result T CliFault) (config : Config) (nodes : List Shared) → AreServed old.remaining config nodes
+pub concludes : {T : Type 0} → (old new : Streams) (result : Result T CliFault) (config : Config) (nodes : List Shared) → AreServedForHead old.remaining config nodes
     → OnOk result (Appends old.contents new.contents (audit_of config nodes)) → AppendsFront old.contents new.contents (audit_of config nodes)
     → IfErr result (λ ended. (ended ≡ OutOfMemory) ⊎ ((ended ≡ WriteFault) ⊎ (ended ≡ ReadFault)))
     → (IsErrOf result ReadFault → Appends old.contents new.contents (audit_of config nodes))

@@ -175,7 +175,7 @@ migrating = record { does = ReadsAll WritesMigrated; begins = WritesSomeOf Write
 
 -- the input begins with a head of this configuration, and these are nodes that a service of it leaves; a replay of each tenant's records in their
 -- audit finds them all the same, and one of its text says so if no record's line is too long
-pub record AreServed (old_remaining : Option (List ℕ)) (config : Config) (nodes : List Shared) : Type 0 where
+pub record AreServedForHead (old_remaining : Option (List ℕ)) (config : Config) (nodes : List Shared) : Type 0 where
   pub head : IfSome old_remaining (λ bytes. (lines : List (List ℕ)) × (head_of (lines_of bytes) ≡ Whole config lines))
   pub left : AreLeft (new_nodes config).nodes nodes
   pub replays : AllReplaySame config (his_nodes config nodes)
@@ -183,22 +183,21 @@ pub record AreServed (old_remaining : Option (List ℕ)) (config : Config) (node
 
 -- the audit of the nodes that are left is written
 abbrev pub WritesServed : Streams → Streams → Type 0
-WritesServed old new = (config : Config) × (nodes : List Shared) × AreServed old.remaining config nodes × Appends old.contents new.contents (audit_of config nodes)
+WritesServed old new = (config : Config) × (nodes : List Shared) × AreServedForHead old.remaining config nodes × Appends old.contents new.contents (audit_of config nodes)
 
 -- nothing is written, or a prefix of that
 abbrev pub WritesServedFront : Streams → Streams → Type 0
 WritesServedFront old new = Keeps old.contents new.contents
-    ⊎ ((config : Config) × (nodes : List Shared) × AreServed old.remaining config nodes × AppendsFront old.contents new.contents (audit_of config nodes))
+    ⊎ ((config : Config) × (nodes : List Shared) × AreServedForHead old.remaining config nodes × AppendsFront old.contents new.contents (audit_of config nodes))
 
 -- the input begins with a head
 abbrev pub HasHead : List ℕ → Type 0
 HasHead bytes = (config : Config) × (lines : List (List ℕ)) × (head_of (lines_of bytes) ≡ Whole config lines)
 
--- a bad head; behind a head, the listener failed, before the service or at its end, or a thread could not be started; a turn of a node was never ended
+-- a bad head; behind a head, the listener failed, before the service or at its end, or a thread could not be started
 abbrev pub refuses_service : Streams → Streams → CliFault → Type 0
 refuses_service old new (BadHead line) = RefusesAll (HasBadHead line) old new
 refuses_service old new ReadFault = RefusesAll HasHead old new ⊎ WritesServed old new
-refuses_service old new Torn = RefusesAll HasHead old new
 refuses_service old new other = ⊥
 
 -- a service for clients, and its audit
@@ -226,7 +225,7 @@ abbrev pub WritesServedLivesFront : Streams → Streams → Type 0
 WritesServedLivesFront old new = Keeps old.contents new.contents
     ⊎ ((config : Config) × (tenants : List (Option Tenant)) × (nodes : List Shared) × AreServedByLives old.remaining config tenants nodes × AppendsFront old.contents new.contents (open_audit_of config tenants nodes))
 
--- the same as of a service with fixed tenants; or the nodes that are left lack an open tenant
+-- the same as of a service with fixed tenants; or a turn of a node was never ended, or the nodes that are left lack an open tenant
 abbrev pub refuses_service_of_lives : Streams → Streams → CliFault → Type 0
 refuses_service_of_lives old new (BadHead line) = RefusesAll (HasBadHead line) old new
 refuses_service_of_lives old new ReadFault = RefusesAll HasHead old new ⊎ WritesServedLives old new

@@ -1,17 +1,15 @@
 //! Reads standard input after the head, on a thread of its own. With the head's tenants alone, the line `end` ends the service.
-ghost use Rattle.std.specs.Prelude.{◌≡◌, IfErr};
+ghost use Rattle.std.specs.Prelude.{◌≡◌, ◌+◌, ◌-◌, ◌^◌, [], min, IfErr, Some};
 
 use crate::faults::CliFault;
-use cops_service::Stop;
+use crate::host_input::LineSoFar;
+use cops_service::{HostLine, Stop};
 use std::alloc::Global;
 use std::io::{ErrorKind, Read};
 use std::sync::Arc;
 use std::thread;
 use std::thread::Threads;
 use std::time::Clock;
-
-/// The line that ends the service.
-const END: [u8; 3] = *b"end";
 
 // ---- any reader of lines
 
@@ -57,76 +55,28 @@ impl Hosted for HostRuntime {
 
 // ---- the line `end`
 
-/// The meaning of a line.
-#[derive(Clone, Copy, Debug, PartialEq, Eq)]
-enum Said {
-    /// An empty or unfinished line.
-    Nothing,
-    /// The service should end.
-    End,
-    /// The line of this number is anything else.
-    Other(u64),
-}
-
-/// Lines of standard input, which come byte by byte.
-#[derive(Clone, Copy)]
-struct Lines {
-    // The number of ended lines.
-    count: u64,
-    // The length of the unfinished line, and whether it is a prefix of `end`.
-    length: usize,
-    begins_end: bool,
-}
-
-impl Lines {
-    fn new(count: u64) -> Lines {
-        Lines {
-            count,
-            length: 0,
-            begins_end: true,
-        }
-    }
-
-    // A byte comes.
-    fn take(&mut self, byte: u8) -> Said {
-        if byte == b'\n' {
-            return self.end();
-        }
-        self.begins_end = self.begins_end && END.get(self.length) == Some(&byte);
-        self.length = self.length.saturating_add(1);
-        Said::Nothing
-    }
-
-    // The line is whole.
-    fn end(&mut self) -> Said {
-        let line = self.count.saturating_add(1);
-        let said = if self.length == 0 {
-            Said::Nothing
-        } else if self.begins_end && self.length == END.len() {
-            Said::End
-        } else {
-            Said::Other(line)
-        };
-        *self = Lines::new(line);
-        said
-    }
-}
-
 /// Ends a service at the line `end`.
 #[derive(Drop)]
 struct Ending<'a, R> {
     rt: &'a R,
     stop: &'a Stop,
-    lines: Lines,
+    line: LineSoFar,
+    // The number of ended lines.
+    count: u64,
 }
 
 impl<R: Eprint + Clock> Ending<'_, R> {
-    // Does what a line says.
-    fn follow(&self, said: Said) {
-        match said {
-            Said::Nothing => (),
-            Said::End => self.stop.ask(self.rt),
-            Said::Other(line) => {
+    // The line is whole.
+    fn end(&mut self)
+        ensures count { self.new.count ≡ min (self.old.count + 1) (2 ^ 64 - 1) }
+        ensures next { self.new.line ≡ Some [] }
+    {
+        self.count = self.count.saturating_add(1);
+        match self.line.end() {
+            None => (),
+            Some(HostLine::End) => self.stop.ask(self.rt),
+            Some(_) => {
+                let line = self.count;
                 let _ = eprintln!(self.rt; "cops: line {line}: only 'end' may follow 'begin'");
             }
         }
@@ -135,27 +85,35 @@ impl<R: Eprint + Clock> Ending<'_, R> {
 
 impl<R: Eprint + Clock> Follows for Ending<'_, R> {
     fn take(&mut self, byte: u8) {
-        let said = self.lines.take(byte);
-        self.follow(said);
+        if byte == b'\n' {
+            self.end();
+        } else {
+            self.line.push(byte);
+        }
     }
 
     fn finish(&mut self) {
-        let said = self.lines.end();
-        self.follow(said);
+        self.end();
     }
 }
 
 // Follows the lines of standard input to its end. So many lines have come before.
-fn follow_lines<R: Input + Eprint + Clock>(rt: &R, stop: &Stop, before: u64) {
-    let lines = Lines::new(before);
-    follow_all(rt, &mut Ending { rt, stop, lines });
+fn follow_lines<R: Input + Eprint + Clock>(rt: &R, stop: &Stop, line: LineSoFar, before: u64) {
+    let mut ending = Ending {
+        rt,
+        stop,
+        line,
+        count: before,
+    };
+    follow_all(rt, &mut ending);
 }
 
-/// Starts a thread that follows standard input, of which so many lines have come. Nobody joins it:
-/// it ends with the process. Fails if it can't be started.
+/// Starts a thread that follows standard input, of which so many lines have come, beginning with this
+/// empty line. Nobody joins it: it ends with the process. Fails if it can't be started.
 pub(crate) fn follow_input<R: Threads + Hosted>(
     rt: &R,
     stop: &Arc<Stop, Global>,
+    line: LineSoFar,
     before: u64,
 ) -> Result<(), CliFault>
     ensures { IfErr result (λ fault. fault ≡ CliFault.ReadFault) }
@@ -164,7 +122,7 @@ pub(crate) fn follow_input<R: Threads + Hosted>(
         return Err(CliFault::ReadFault);
     };
     let own = rt.host();
-    match thread::spawn(rt, move || follow_lines(&own, &theirs, before)) {
+    match thread::spawn(rt, move || follow_lines(&own, &theirs, line, before)) {
         Ok(_) => Ok(()),
         Err(_) => Err(CliFault::ReadFault),
     }

@@ -39,7 +39,7 @@ fn read_host_line(line: &[u8]) -> HostLine
 /// A line of standard input, which comes byte by byte. Contracts see its bytes, or none if it is longer than any line that has
 /// a form.
 #[derive(Drop)]
-struct LineSoFar {
+pub(crate) struct LineSoFar {
     bytes: Vec<u8>,
     is_long: bool,
     ghost room: { longest ≤ vec_capacity bytes },
@@ -55,7 +55,7 @@ impl Model for LineSoFar {
 
 impl LineSoFar {
     /// Returns an empty line. Fails with `AllocError` if memory runs out.
-    fn new(alloc: Global) -> Result<Self, AllocError>
+    pub(crate) fn new(alloc: Global) -> Result<Self, AllocError>
         ensures { IfOk result (λ line. line ≡ Some []) }
     {
         Ok(LineSoFar {
@@ -66,7 +66,7 @@ impl LineSoFar {
 
     /// Adds a byte.
     #[tactic(auto, using(crate::proofs::HostInputFacts::room_for_byte, crate::proofs::HostInputFacts::no_room_for_byte))]
-    fn push(&mut self, byte: u8)
+    pub(crate) fn push(&mut self, byte: u8)
         ensures { self.new ≡ with_byte byte self.old }
     {
         if self.bytes.len() < LONGEST {
@@ -78,7 +78,7 @@ impl LineSoFar {
 
     /// Returns the meaning of the line, unless it is empty, and begins the next.
     #[tactic(auto, using(crate::proofs::HostInputFacts::said_long, crate::proofs::HostInputFacts::said_none, crate::proofs::HostInputFacts::said_some))]
-    fn end(&mut self) -> Option<HostLine>
+    pub(crate) fn end(&mut self) -> Option<HostLine>
         ensures said { result ≡ line_said self.old }
         ensures next { self.new ≡ Some [] }
     {

@@ -17,6 +17,7 @@ ghost use Rattle.cops_cli.specs.Commands.{MayEnd, serving, streams};
 use crate::command_line::Service;
 use crate::control::{Hosted, follow_input};
 use crate::faults::CliFault;
+use crate::host_input::LineSoFar;
 use crate::moments::SteadyMoments;
 use cops_replay::write_audit;
 use cops_script::{BadConfig, RunFault, read_config};
@@ -114,7 +115,8 @@ where
 {
     let stop = stop_at(rt, listener)?;
     let stop = shared(alloc, stop)?;
-    if follow_input(rt, &stop, lines).is_err() {
+    let line = LineSoFar::new(alloc)?;
+    if follow_input(rt, &stop, line, lines).is_err() {
         let _ = eprintln!(rt; "cops: cannot start a thread");
         return Err(CliFault::ReadFault);
     }
@@ -147,8 +149,7 @@ where
     requires clocks { IsTrue (are_clocks config.now) }
     ensures left { IfOk result (λ served. AreLeft (new_nodes config.now).nodes served.nodes.items) }
     ensures threads { IfOk result (λ served. served.end ≢ ServiceEnd.NoThread) }
-    ensures stopped { IfErr result (λ fault.
-        (fault ≡ CliFault.OutOfMemory) ⊎ (fault ≡ CliFault.ReadFault) ⊎ (fault ≡ CliFault.Torn)) }
+    ensures stopped { IfErr result (λ fault. (fault ≡ CliFault.OutOfMemory) ⊎ (fault ≡ CliFault.ReadFault)) }
 {
     let listener = listen(rt, service.address)?;
     let stop = stop_of(rt, alloc, &listener, lines)?;
