@@ -137,7 +137,7 @@ pub fn seats_make_calls_of_actors<M: Moments>()
         AreCallsOfActors (IsCallAtShard config cluster) config between last → AreCallsOfActors (IsCallAtShard config cluster) config first last }
 {}
 
-/// Theorem: a service that ran is a cluster that its seats served. Its log has each call with its reply. Where memory
+/// Theorem: a service that ran is a cluster that its seats served. Its log has each call with its reply. If memory
 /// was refused, the gate's history has a no-op turn.
 pub fn services_are_served_clusters()
     ensures { (config : Config) (cluster : Gates Shared) (history : NodeLog) (seats : ℕ) (actors : ℕ → List SlotActor) → IsServiceRun config cluster history seats actors →
@@ -173,7 +173,7 @@ pub fn threads_serve_causally<M: Moments>()
 {}
 
 /// Theorem: a service whose tenants come and go, that ran, is one log of all calls, those of the host among them. In each life of a
-/// slot, the turns of each seat are those of its actors' commands. Where memory was refused, the gate's history has a no-op turn.
+/// slot, the turns of each seat are those of its actors' commands. If memory was refused, the gate's history has a no-op turn.
 pub fn services_are_logs_of_lives()
     ensures { (config : Config) (states : List Hosted) (history : HostedLog) (seats : ℕ) (deeds : ℕ → List Deed) → IsLivesRun config states history seats deeds →
         (log : List SlotTurn) × IsLogOfLives config history deeds log }
