@@ -10,7 +10,6 @@ use crate::reports::HostReports;
 use crate::residents::Residents;
 use crate::stops::Stop;
 use crate::tests::config;
-use crate::watching::{Lasting, Stay};
 use crate::{Cluster, HostedDesk, Life, Roster, TenantHost};
 use cops_model::HostReply;
 use cops_node::has_clocks;
@@ -58,32 +57,6 @@ fn told<R: Wait + Clock>(
 fn assert_greeted<R: Wait + Abort>(rt: &R, residents: &Residents, life: Option<u64>) {
     let found = residents.find(rt, &[2; 16]);
     assert!(rt; found.map(|resident| resident.life) == life.map(|number| Life { slot: 1, number }));
-}
-
-// Returns what a connection of beta's looks at that is greeted now.
-fn stay_of<'a, R: Wait>(rt: &'a R, residents: &'a Residents) -> Stay<'a, R> {
-    let found = residents.find(rt, &[2; 16]);
-    Stay::new(rt, residents, found.map(|resident| resident.life))
-}
-
-// Asserts that beta's life goes on from its admission to its close, whoever is admitted later.
-fn assert_stays<R: Wait + Clock + Abort>(
-    rt: &R,
-    residents: &Residents,
-    host: &mut TenantHost<'_, R>,
-) {
-    let stop = Stop::never();
-    assert!(rt; told(rt, residents, &stop, host, HostLine::Admit(beta(rt))) == ADMITTED);
-    let mut first = stay_of(rt, residents);
-    assert!(rt; first.goes_on() && first.goes_on());
-    assert!(rt; told(rt, residents, &stop, host, HostLine::Close(beta(rt).name)) == CLOSED);
-    assert!(rt; !first.goes_on() && !first.goes_on());
-    assert!(rt; told(rt, residents, &stop, host, HostLine::Admit(beta(rt))) == ADMITTED);
-    let mut second = stay_of(rt, residents);
-    assert!(rt; second.goes_on() && second.goes_on());
-    assert!(rt; !first.goes_on());
-    assert!(rt; told(rt, residents, &stop, host, HostLine::Close(beta(rt).name)) == CLOSED);
-    assert!(rt; !second.goes_on());
 }
 
 // Asserts the replies in two lives of beta, who is greeted from its admission to its close.
@@ -136,7 +109,6 @@ fn follow_lines<R: Wait + Clock + Abort>(rt: &R, alloc: Global, config: &Config)
         roster: Roster::of(alloc, config).expect(rt, "memory"),
     };
     assert_lives(rt, &residents, &mut host);
-    assert_stays(rt, &residents, &mut host);
     assert_others(rt, &residents, &mut host);
 }
 

@@ -4,4 +4,3 @@ mod connections;
 mod exchanges;
 mod memory;
 mod messages;
-mod refusals;
