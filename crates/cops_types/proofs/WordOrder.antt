@@ -177,6 +177,62 @@ fronts_apart xs ys second o l p q f g is apart = stays o next apart ∙ ap (λ o
     next : Ordering
     next = nat_cmp (big_endian 0 (take 8 (drop second xs))) (big_endian 0 (take 8 (drop second ys)))
 
+-- eight more bytes decide, if those before do not
+eight_more : (xs ys : List ℕ) (at : ℕ) → at + 8 ≤ length xs → at + 8 ≤ length ys → AreBytes xs → AreBytes ys →
+    slice_cmp nat_cmp (take (at + 8) xs) (take (at + 8) ys)
+    ≡ ordering_then (slice_cmp nat_cmp (take at xs) (take at ys)) (nat_cmp (big_endian 0 (take 8 (drop at xs))) (big_endian 0 (take 8 (drop at ys))))
+eight_more xs ys at p q f g =
+    by_parts at at (take (at + 8) xs) (take (at + 8) ys) (omega arith) (long xs p) (long ys q)
+    ∙ (λ i. ordering_then (slice_cmp nat_cmp (first xs i) (first ys i)) (slice_cmp nat_cmp (drop-take at 8 xs i) (drop-take at 8 ys i)))
+    ∙ ap (ordering_then (slice_cmp nat_cmp (take at xs) (take at ys))) (sym number)
+  where
+    first : (zs : List ℕ) → take at (take (at + 8) zs) ≡ take at zs
+    first zs = take-take at (at + 8) zs (omega arith)
+
+    long : (zs : List ℕ) → at + 8 ≤ length zs → at ≤ length (take (at + 8) zs)
+    long zs r = omega (arith, length-take-le (at + 8) zs r)
+
+    size : (zs : List ℕ) → at + 8 ≤ length zs → length (take 8 (drop at zs)) ≡ 8
+    size zs r = length-take-le 8 (drop at zs) (omega (arith, length-drop at zs))
+
+    number : nat_cmp (big_endian 0 (take 8 (drop at xs))) (big_endian 0 (take 8 (drop at ys))) ≡ slice_cmp nat_cmp (take 8 (drop at xs)) (take 8 (drop at ys))
+    number = spelled (take 8 (drop at xs)) (take 8 (drop at ys)) 0 0 (size xs p ∙ sym (size ys q)) (AreBytes-take 8 (drop at xs) (AreBytes-drop at xs f)) (AreBytes-take 8 (drop at ys) (AreBytes-drop at ys g))
+
+-- one more word that is the same
+pub words_alike : (xs ys : List ℕ) (word : ℕ) (o : Ordering) → (word + 1) * 8 ≤ length xs → (word + 1) * 8 ≤ length ys → AreBytes xs → AreBytes ys →
+    slice_cmp nat_cmp (take (word * 8) xs) (take (word * 8) ys) ≡ Equal →
+    o ≡ nat_cmp (big_endian 0 (take 8 (drop (word * 8) xs))) (big_endian 0 (take 8 (drop (word * 8) ys))) → o ≡ Equal →
+    slice_cmp nat_cmp (take ((word + 1) * 8) xs) (take ((word + 1) * 8) ys) ≡ Equal
+words_alike xs ys word o p q f g before is alike =
+    let next : (word + 1) * 8 ≡ word * 8 + 8 = omega arith in
+    (λ i. slice_cmp nat_cmp (take (next i) xs) (take (next i) ys))
+    ∙ eight_more xs ys (word * 8) (omega arith) (omega arith) f g
+    ∙ (λ i. ordering_then (before i) (sym is i))
+    ∙ alike
+
+-- the first word that differs decides
+pub words_apart : (xs ys : List ℕ) (word words : ℕ) (o : Ordering) → word < words → words * 8 ≤ length xs → words * 8 ≤ length ys → AreBytes xs → AreBytes ys →
+    slice_cmp nat_cmp (take (word * 8) xs) (take (word * 8) ys) ≡ Equal →
+    o ≡ nat_cmp (big_endian 0 (take 8 (drop (word * 8) xs))) (big_endian 0 (take 8 (drop (word * 8) ys))) → (o ≡ Equal → ⊥) →
+    o ≡ slice_cmp nat_cmp (take (words * 8) xs) (take (words * 8) ys)
+words_apart xs ys word words o l p q f g before is apart =
+    stays o whole apart
+    ∙ ap (λ r. ordering_then r whole) (sym decided)
+    ∙ (λ i. ordering_then (slice_cmp nat_cmp (first xs i) (first ys i)) whole)
+    ∙ sym (whole_first (word * 8 + 8) (take (words * 8) xs) (take (words * 8) ys) (long xs p) (long ys q))
+  where
+    whole : Ordering
+    whole = slice_cmp nat_cmp (take (words * 8) xs) (take (words * 8) ys)
+
+    decided : slice_cmp nat_cmp (take (word * 8 + 8) xs) (take (word * 8 + 8) ys) ≡ o
+    decided = eight_more xs ys (word * 8) (omega arith) (omega arith) f g ∙ (λ i. ordering_then (before i) (sym is i))
+
+    first : (zs : List ℕ) → take (word * 8 + 8) zs ≡ take (word * 8 + 8) (take (words * 8) zs)
+    first zs = sym (take-take (word * 8 + 8) (words * 8) zs (omega arith))
+
+    long : (zs : List ℕ) → words * 8 ≤ length zs → word * 8 + 8 ≤ length (take (words * 8) zs)
+    long zs r = omega (arith, length-take-le (words * 8) zs r)
+
 -- ---- zeros behind
 
 abbrev pub ArePositive : List ℕ → Type 0
@@ -221,21 +277,21 @@ pub padded_cmp : (n c d : ℕ) (a b : List ℕ) → n ≤ c → n ≤ d → leng
 padded_cmp n c d a b l m p q f g = pads n a b (c - length a) (d - length b) (omega arith) (omega arith) (key-positive a f) (key-positive b g)
 
 -- the first cells of a key and those of another decide, if they differ or hold both keys
-pub cells_decide : (b c : List ℕ) (m n : ℕ) (o : Ordering) → IsPadded 64 is_key b m → IsPadded 64 is_key c n →
-    o ≡ slice_cmp nat_cmp (take 16 b) (take 16 c) → ((o ≡ Equal → ⊥) ⊎ ((m ≤ 16) × (n ≤ 16))) → o ≡ key_cmp (take m b) (take n c)
-cells_decide b c m n o h k is decided = by decided ∙ sym whole
+pub cells_decide : (most : ℕ) (b c : List ℕ) (m n : ℕ) (o : Ordering) → most ≤ 64 → IsPadded 64 is_key b m → IsPadded 64 is_key c n →
+    o ≡ slice_cmp nat_cmp (take most b) (take most c) → ((o ≡ Equal → ⊥) ⊎ ((m ≤ most) × (n ≤ most))) → o ≡ key_cmp (take m b) (take n c)
+cells_decide most b c m n o within h k is decided = by decided ∙ sym whole
   where
-    whole : key_cmp (take m b) (take n c) ≡ ordering_then o (slice_cmp nat_cmp (drop 16 (take m b)) (drop 16 (take n c)))
+    whole : key_cmp (take m b) (take n c) ≡ ordering_then o (slice_cmp nat_cmp (drop most (take m b)) (drop most (take n c)))
     whole =
-        padded_cmp 16 64 64 (take m b) (take n c) (omega arith) (omega arith) (omega (arith, (padded-take 64 is_key b m h).1, h.fits)) (omega (arith, (padded-take 64 is_key c n k).1, k.fits)) h.formed k.formed
-        ∙ (λ i. ordering_then (slice_cmp nat_cmp (take 16 ((padded-take 64 is_key b m h).0 i)) (take 16 ((padded-take 64 is_key c n k).0 i))) (slice_cmp nat_cmp (drop 16 (take m b)) (drop 16 (take n c))))
-        ∙ ap (λ p. ordering_then p (slice_cmp nat_cmp (drop 16 (take m b)) (drop 16 (take n c)))) (sym is)
+        padded_cmp most 64 64 (take m b) (take n c) within within (omega (arith, (padded-take 64 is_key b m h).1, h.fits)) (omega (arith, (padded-take 64 is_key c n k).1, k.fits)) h.formed k.formed
+        ∙ (λ i. ordering_then (slice_cmp nat_cmp (take most ((padded-take 64 is_key b m h).0 i)) (take most ((padded-take 64 is_key c n k).0 i))) (slice_cmp nat_cmp (drop most (take m b)) (drop most (take n c))))
+        ∙ ap (λ p. ordering_then p (slice_cmp nat_cmp (drop most (take m b)) (drop most (take n c)))) (sym is)
 
-    by : ((o ≡ Equal → ⊥) ⊎ ((m ≤ 16) × (n ≤ 16))) → o ≡ ordering_then o (slice_cmp nat_cmp (drop 16 (take m b)) (drop 16 (take n c)))
+    by : ((o ≡ Equal → ⊥) ⊎ ((m ≤ most) × (n ≤ most))) → o ≡ ordering_then o (slice_cmp nat_cmp (drop most (take m b)) (drop most (take n c)))
     by (inl apart) = stays o _ apart
     by (inr short) =
         sym (then_Equal o)
-        ∙ (λ i. ordering_then o (slice_cmp nat_cmp (sym (drop_all 16 (take m b) (omega (arith, (padded-take 64 is_key b m h).1, short.0))) i) (sym (drop_all 16 (take n c) (omega (arith, (padded-take 64 is_key c n k).1, short.1))) i)))
+        ∙ (λ i. ordering_then o (slice_cmp nat_cmp (sym (drop_all most (take m b) (omega (arith, (padded-take 64 is_key b m h).1, short.0))) i) (sym (drop_all most (take n c) (omega (arith, (padded-take 64 is_key c n k).1, short.1))) i)))
 
 is_name-key : (name : List ℕ) → is_name name ≡ true → is_key name ≡ true
 is_name-key name is = grind (arith, nat_tests)
