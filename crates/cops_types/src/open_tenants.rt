@@ -16,6 +16,7 @@ use crate::name_hints::NameHints;
 use crate::names::Name;
 use crate::request_errors::RequestError;
 use crate::tenants::Tenants;
+use crate::words::are_same;
 use indexmap::IndexMap;
 use std::alloc::{AllocError, Global};
 use std::marker::Model;
@@ -215,7 +216,7 @@ impl OpenTenants {
         ensures { IsTrue result → open_slot_of_name self.now name.now ≡ Some place }
     {
         match self.slots.get(place as usize) {
-            Some(Some(tenant)) => tenant.name.bytes() == name,
+            Some(Some(tenant)) => are_same(tenant.name.bytes(), name),
             _ => false,
         }
     }

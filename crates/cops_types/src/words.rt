@@ -86,6 +86,23 @@ pub(crate) fn behind_space(bytes: &[u8], at: usize) -> Option<&[u8]>
     Some(&bytes[at + 1..])
 }
 
+/// Returns `true` if the bytes are the same. For words of few bytes, which are compared one by one.
+#[inline(always)]
+pub(crate) fn are_same(bytes: &[u8], others: &[u8]) -> bool
+    ensures same { IsTrue result → bytes.now ≡ others.now }
+    ensures apart { bytes.now ≡ others.now → IsTrue result }
+{
+    if bytes.len() != others.len() {
+        return false;
+    }
+    for at in 0..bytes.len() {
+        if bytes[at] != others[at] {
+            return false;
+        }
+    }
+    true
+}
+
 /// Returns the bytes after this word and a space, if the bytes begin with them.
 #[inline(always)]
 pub fn behind_word<'a>(bytes: &'a [u8], word: &[u8]) -> Option<&'a [u8]>
