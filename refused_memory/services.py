@@ -40,26 +40,64 @@ def is_its_own_peer(stream):
         return False
 
 
+def connect(port):
+    """A connection to a service that listens."""
+    stream = socket.create_connection(("127.0.0.1", port), REPLY_TIME)
+    if is_its_own_peer(stream):
+        stream.close()
+        raise ConnectionRefusedError
+    return stream
+
+
+def read_until(stream, is_enough):
+    """What is read until it is enough, or there is no more."""
+    read = b""
+    try:
+        while not is_enough(read) and (piece := stream.recv(65_536)):
+            read += piece
+    except OSError:
+        # (a service that has ended reads no more: what it answered until then counts)
+        pass
+    return read
+
+
+def ask_the_last(stream, bytes_sent):
+    """What is answered to the last bytes on a connection."""
+    try:
+        stream.sendall(bytes_sent)
+        stream.shutdown(socket.SHUT_WR)
+    except OSError:
+        pass
+    return read_until(stream, lambda read: False)
+
+
 def talk(port, bytes_sent):
-    """What is answered to these bytes, or nothing if nobody listens."""
-    with socket.create_connection(("127.0.0.1", port), REPLY_TIME) as stream:
-        read = b""
-        if is_its_own_peer(stream):
-            raise ConnectionRefusedError
-        try:
-            stream.sendall(bytes_sent)
-            stream.shutdown(socket.SHUT_WR)
-            while piece := stream.recv(65_536):
-                read += piece
-        except OSError:
-            # (a service that has ended reads no more: what it answered until then counts)
-            pass
-        return read
+    """What is answered to these bytes."""
+    with connect(port) as stream:
+        return ask_the_last(stream, bytes_sent)
 
 
 def messages(read):
     """The whole messages that were read."""
     return list(Decoder().feed(read))
+
+
+class Guest:
+    """A client that has sent its first message, and read the reply to it."""
+
+    def __init__(self, port, bytes_sent):
+        first = 4 + int.from_bytes(bytes_sent[:4], "big")
+        self.stream, self.left = connect(port), bytes_sent[first:]
+        try:
+            self.stream.sendall(bytes_sent[:first])
+        except OSError:
+            pass
+        self.read = read_until(self.stream, messages)
+
+    def rest(self):
+        """All that is answered, with what is answered to the other messages."""
+        with self.stream:
+            return self.read + ask_the_last(self.stream, self.left)
 
 
 class Run:
@@ -106,11 +144,11 @@ class Run:
         except subprocess.TimeoutExpired:
             pass
 
-    def ask(self, bytes_sent):
-        """What is answered to these bytes, once it listens. None if it ends before."""
+    def ask(self, bytes_sent, of=talk):
+        """What is answered to these bytes, or what another call makes of them, once it listens. None if it ends before."""
         while self.is_running():
             try:
-                return talk(self.port, bytes_sent)
+                return of(self.port, bytes_sent)
             except (ConnectionRefusedError, ConnectionResetError):
                 time.sleep(0.005)
         return None
