@@ -132,7 +132,7 @@ fn make_way(rows: &mut IndexMap<ActorId, ActorRow, Seeds>, rings: &mut Vec<Ring>
 }
 
 // Removes the row at a place. The last row takes its place.
-#[inline(always)]
+#[inline(never)]
 pub(crate) fn remove(
     rows: &mut IndexMap<ActorId, ActorRow, Seeds>,
     rings: &mut Vec<Ring>,
