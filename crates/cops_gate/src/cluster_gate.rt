@@ -65,7 +65,8 @@ impl<M: Machine> ClusterGate<M> {
         machines: Vec<M>,
     ) -> Result<(ClusterGate<M>, ClusterSeat<M>), AllocFailed<Vec<M>>>
         requires { (0 < length machines.items) × (length machines.items ≤ 2 ^ 32) }
-        ensures ok { IfOk result (λ r. (r.0.opening ≡ machines.items) × (r.0.ticket ≡ 0) × (r.1 ≡ first_seat r.0)) }
+        ensures ok { IfOk result (λ r. (r.0.opening ≡ machines.items) × (r.0.ticket ≡ 0)
+            × (r.1 ≡ first_seat r.0)) }
         ensures refused { IfErr result (λ back. back.value.items ≡ machines.items) }
     {
         ClusterGate::open_at(alloc, machines, 0)
@@ -79,7 +80,8 @@ impl<M: Machine> ClusterGate<M> {
     ) -> Result<(ClusterGate<M>, ClusterSeat<M>), AllocFailed<Vec<M>>>
         requires machines { (0 < length machines.items) × (length machines.items ≤ 2 ^ 32) }
         requires ticket { ticket ≤ 2 ^ 62 }
-        ensures ok { IfOk result (λ r. (r.0.opening ≡ machines.items) × (r.0.ticket ≡ ticket) × (r.1 ≡ first_seat r.0)) }
+        ensures ok { IfOk result (λ r. (r.0.opening ≡ machines.items) × (r.0.ticket ≡ ticket)
+            × (r.1 ≡ first_seat r.0)) }
         ensures refused { IfErr result (λ back. back.value.items ≡ machines.items) }
     {
         let count = machines.len();
@@ -116,14 +118,19 @@ impl<M: Machine> ClusterGate<M> {
     ) -> Result<M::Reply, RequestError>
         requires seat { seat.old.gate ≡ gate_home self.now }
         requires node { node < length self.now.opening }
-        requires fits { (first : M) → get_elem? self.now.opening node ≡ some first → M.fits (M.place first) slot call }
+        requires fits { (first : M) → get_elem? self.now.opening node ≡ some first →
+            M.fits (M.place first) slot call }
         ensures same { (seat.new.gate ≡ seat.old.gate) × (seat.new.number ≡ seat.old.number) }
         ensures account { seat.new.account ≡ seat.old.account }
-        ensures reply { IfOk result (λ r. Extends M.turns self.now.opening node seat.old (Some (entry slot moment call r)) seat.new) }
+        ensures reply { IfOk result (λ r. Extends M.turns self.now.opening node seat.old
+            (Some (entry slot moment call r)) seat.new) }
         ensures refused { IfRefusal result (λ f. f ≡ GateSpent) }
-        ensures blank { result ≡ Err OutOfMemory → Extends M.turns self.now.opening node seat.old None seat.new }
-        ensures lacks { result ≡ Err OutOfMemory → LeavesLacking M.turns M.may_lack self.now.opening seat.old.number node slot call seat.new.history }
-        ensures spent { result ≡ Err (RefusedWith GateSpent) → (seat.new.history ≡ seat.old.history) × (seat.new.spent ≡ node ∷ seat.old.spent) }
+        ensures blank { result ≡ Err OutOfMemory →
+            Extends M.turns self.now.opening node seat.old None seat.new }
+        ensures lacks { result ≡ Err OutOfMemory → LeavesLacking M.turns M.may_lack self.now.opening
+            seat.old.number node slot call seat.new.history }
+        ensures spent { result ≡ Err (RefusedWith GateSpent) → (seat.new.history ≡ seat.old.history)
+            × (seat.new.spent ≡ node ∷ seat.old.spent) }
         ensures unspent { result ≢ Err (RefusedWith GateSpent) → seat.new.spent ≡ seat.old.spent }
         ensures room { HasRoom seat.new.gate.opening seat.new.history }
         ensures again { Met node seat.old.spent → result ≡ Err (RefusedWith GateSpent) }
@@ -163,7 +170,8 @@ impl<M: Machine> ClusterGate<M> {
     pub fn split(&self, seat: &mut ClusterSeat<M>) -> ClusterSeat<M>
         requires { seat.old.gate ≡ gate_home self.now }
         ensures same { seat.new ≡ split_off seat.old }
-        ensures new { (result.gate ≡ seat.old.gate) × (result.history ≡ seat.old.history) × (result.spent ≡ seat.old.spent) }
+        ensures new { (result.gate ≡ seat.old.gate) × (result.history ≡ seat.old.history)
+            × (result.spent ≡ seat.old.spent) }
         ensures account { result.account ≡ fork_of seat.old.account }
         ensures no_turn { turns_of result.number result.history ≡ [] }
     {
@@ -177,13 +185,17 @@ impl<M: Machine> ClusterGate<M> {
         requires from { from.old.gate ≡ gate_home self.now }
         requires to { to.old.gate ≡ gate_home self.now }
         ensures from { from.new ≡ from.old }
-        ensures same { (to.new.gate ≡ to.old.gate) × (to.new.number ≡ to.old.number) × (to.new.spent ≡ to.old.spent) }
+        ensures same { (to.new.gate ≡ to.old.gate) × (to.new.number ≡ to.old.number)
+            × (to.new.spent ≡ to.old.spent) }
         ensures account { to.new.account ≡ to.old.account }
-        ensures seen { StartsWith to.new.history from.old.history × StartsWith to.new.history to.old.history }
+        ensures seen { StartsWith to.new.history from.old.history
+            × StartsWith to.new.history to.old.history }
         ensures legal { IsWhole M.turns self.now.opening to.new.history }
         ensures room { HasRoom to.new.gate.opening to.new.history }
-        ensures no_turn { turns_of to.new.number to.new.history ≡ turns_of to.old.number to.old.history }
-        ensures joined { (j : ℕ) → Met j to.old.account.joined → turns_of j to.new.history ≡ turns_of j to.old.history }
+        ensures no_turn { turns_of to.new.number to.new.history
+            ≡ turns_of to.old.number to.old.history }
+        ensures joined { (j : ℕ) → Met j to.old.account.joined →
+            turns_of j to.new.history ≡ turns_of j to.old.history }
     {
         let told = note(&self.board, &mut from.place);
         hear(&self.board, &mut to.place, told);
@@ -193,14 +205,16 @@ impl<M: Machine> ClusterGate<M> {
     /// turns of each are those that it made. Its account has them. It knows at which nodes they met the
     /// last ticket.
     pub fn end_all(&self, mut seats: Vec<ClusterSeat<M>>, last: &mut ClusterSeat<M>)
-        requires seats { AllByRecursion (λ (s : Known M M.Call M.Reply). s.gate ≡ gate_home self.now) seats.items }
+        requires seats { AllByRecursion (λ (s : Known M M.Call M.Reply).
+            s.gate ≡ gate_home self.now) seats.items }
         requires last { last.old.gate ≡ gate_home self.now }
         ensures same { (last.new.gate ≡ last.old.gate) × (last.new.number ≡ last.old.number) }
         ensures account { last.new.account ≡ all_joined last.old.account seats.items }
         ensures spent { last.new.spent ≡ all_spent last.old.spent seats.items }
         ensures given { AllByRecursion (HasAllOf last.new.history) seats.items }
         ensures seen { StartsWith last.new.history last.old.history }
-        ensures no_turn { turns_of last.new.number last.new.history ≡ turns_of last.old.number last.old.history }
+        ensures no_turn { turns_of last.new.number last.new.history
+            ≡ turns_of last.old.number last.old.history }
     {
         self.meet_each(&mut seats, last);
         self.end_each(seats, last);
@@ -208,14 +222,18 @@ impl<M: Machine> ClusterGate<M> {
 
     // Lets a seat see all that these have seen.
     fn meet_each(&self, seats: &mut Vec<ClusterSeat<M>>, last: &mut ClusterSeat<M>)
-        requires seats { AllByRecursion (λ (s : Known M M.Call M.Reply). s.gate ≡ gate_home self.now) seats.old.items }
+        requires seats { AllByRecursion (λ (s : Known M M.Call M.Reply).
+            s.gate ≡ gate_home self.now) seats.old.items }
         requires last { last.old.gate ≡ gate_home self.now }
         ensures seats { seats.new.items ≡ seats.old.items }
-        ensures same { (last.new.gate ≡ last.old.gate) × (last.new.number ≡ last.old.number) × (last.new.spent ≡ last.old.spent) }
+        ensures same { (last.new.gate ≡ last.old.gate) × (last.new.number ≡ last.old.number)
+            × (last.new.spent ≡ last.old.spent) }
         ensures account { last.new.account ≡ last.old.account }
-        ensures each { AllByRecursion (λ (s : Known M M.Call M.Reply). StartsWith last.new.history s.history) seats.old.items }
+        ensures each { AllByRecursion (λ (s : Known M M.Call M.Reply).
+            StartsWith last.new.history s.history) seats.old.items }
         ensures seen { StartsWith last.new.history last.old.history }
-        ensures no_turn { turns_of last.new.number last.new.history ≡ turns_of last.old.number last.old.history }
+        ensures no_turn { turns_of last.new.number last.new.history
+            ≡ turns_of last.old.number last.old.history }
     {
         for number in 0..seats.len() {
             let from = &mut seats[number];
@@ -225,10 +243,13 @@ impl<M: Machine> ClusterGate<M> {
 
     // Ends these seats into a seat that has seen all that they have seen.
     fn end_each(&self, mut seats: Vec<ClusterSeat<M>>, last: &mut ClusterSeat<M>)
-        requires seats { AllByRecursion (λ (s : Known M M.Call M.Reply). s.gate ≡ gate_home self.now) seats.items }
+        requires seats { AllByRecursion (λ (s : Known M M.Call M.Reply).
+            s.gate ≡ gate_home self.now) seats.items }
         requires last { last.old.gate ≡ gate_home self.now }
-        requires each { AllByRecursion (λ (s : Known M M.Call M.Reply). StartsWith last.old.history s.history) seats.items }
-        ensures same { (last.new.gate ≡ last.old.gate) × (last.new.number ≡ last.old.number) × (last.new.history ≡ last.old.history) }
+        requires each { AllByRecursion (λ (s : Known M M.Call M.Reply).
+            StartsWith last.old.history s.history) seats.items }
+        ensures same { (last.new.gate ≡ last.old.gate) × (last.new.number ≡ last.old.number)
+            × (last.new.history ≡ last.old.history) }
         ensures account { last.new.account ≡ all_joined last.old.account seats.items }
         ensures spent { last.new.spent ≡ all_spent last.old.spent seats.items }
         ensures given { AllByRecursion (HasAllOf last.new.history) seats.items }
@@ -287,11 +308,17 @@ impl<M: Machine + Drop> ClusterGate<M> {
 // Takes the machine of a node out of a closed table. Returns it if all tickets drawn there were served.
 fn take_one<M: Drop>(closed: &mut Closed<M, Global>, node: usize) -> Option<M>
     requires words { IsFull closed.old.words × (16 * node + 1 < slots_len closed.old.words) }
-    requires slot { (node < slots_len closed.old.slots) × Filled (slots_filled closed.old.slots) node (slots_len closed.old.slots) }
-    ensures same { (closed.new.words ≡ closed.old.words) × (slots_items closed.new.slots ≡ slots_items closed.old.slots) × (slots_len closed.new.slots ≡ slots_len closed.old.slots) }
-    ensures taken { slots_filled closed.new.slots ≡ slice_set (slots_filled closed.old.slots) node false }
-    ensures some { IfSome result (IsAtRest (slots_items closed.old.words) (slots_items closed.old.slots) node) }
-    ensures served { ticket_at (slots_items closed.old.words) node ≡ serving_at (slots_items closed.old.words) node → IsSome result }
+    requires slot { (node < slots_len closed.old.slots)
+        × Filled (slots_filled closed.old.slots) node (slots_len closed.old.slots) }
+    ensures same { (closed.new.words ≡ closed.old.words)
+        × (slots_items closed.new.slots ≡ slots_items closed.old.slots)
+        × (slots_len closed.new.slots ≡ slots_len closed.old.slots) }
+    ensures taken { slots_filled closed.new.slots
+        ≡ slice_set (slots_filled closed.old.slots) node false }
+    ensures some { IfSome result
+        (IsAtRest (slots_items closed.old.words) (slots_items closed.old.slots) node) }
+    ensures served { ticket_at (slots_items closed.old.words) node
+        ≡ serving_at (slots_items closed.old.words) node → IsSome result }
 {
     let (drawn, served) = (closed.word(16 * node), closed.word(16 * node + 1));
     let machine = closed.take(node);
@@ -310,7 +337,8 @@ fn take_all<M: Drop>(
     requires room { (machines.items ≡ []) × (count ≤ vec_capacity machines) }
     ensures all { length result.items ≡ count }
     ensures left { AreAtRest (slots_items closed.words) (slots_items closed.slots) result.items }
-    ensures served { AreServed (slots_items closed.words) count → AllByRecursion IsSome result.items }
+    ensures served { AreServed (slots_items closed.words) count →
+        AllByRecursion IsSome result.items }
 {
     let mut node = 0;
     while node < count {
@@ -324,8 +352,10 @@ fn take_all<M: Drop>(
 
 impl<M: Machine> ClusterSeat<M> {
     fn into_place(self) -> BoardSeat<M>
-        ensures home { (result.table_id ≡ self.gate.table) × (result.me.0.opening ≡ self.gate.opening) × (result.me.0.numbered ≡ true) }
-        ensures sight { (result.me.0.seen ≡ self.history) × (result.me.0.number ≡ self.number) × (result.me.0.spent ≡ self.spent) }
+        ensures home { (result.table_id ≡ self.gate.table)
+            × (result.me.0.opening ≡ self.gate.opening) × (result.me.0.numbered ≡ true) }
+        ensures sight { (result.me.0.seen ≡ self.history) × (result.me.0.number ≡ self.number)
+            × (result.me.0.spent ≡ self.spent) }
         ensures account { result.me.0.account ≡ self.account }
         ensures idle { (result.me.1 ≡ []) × (result.me.0.stage ≡ Idle) }
     {

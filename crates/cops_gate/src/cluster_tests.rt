@@ -89,8 +89,10 @@ fn go_both<R: Threads + Wait + Sync>(
     second: ClusterSeat<Counter>,
     ask: Ask,
 ) -> (Made, Made)
-    requires { (first.gate ≡ gate_home gate.now) × (second.gate ≡ gate_home gate.now) × (length gate.now.opening ≡ 3) }
-    ensures { IfSome result.0 (λ r. r.1.gate ≡ gate_home gate.now) × IfSome result.1 (λ r. r.1.gate ≡ gate_home gate.now) }
+    requires { (first.gate ≡ gate_home gate.now) × (second.gate ≡ gate_home gate.now)
+        × (length gate.now.opening ≡ 3) }
+    ensures { IfSome result.0 (λ r. r.1.gate ≡ gate_home gate.now)
+        × IfSome result.1 (λ r. r.1.gate ≡ gate_home gate.now) }
 {
     join(
         rt,
@@ -126,10 +128,12 @@ fn four_threads_take_turns_at_three_nodes(rt: HostRuntime) -> Result<(), Fail> {
     let ((a, b), (c, d)) = join(
         &rt,
         || -> (Made, Made)
-            requires { (first.gate ≡ gate_home gate) × (second.gate ≡ gate_home gate) × (length gate.opening ≡ 3) }
+            requires { (first.gate ≡ gate_home gate) × (second.gate ≡ gate_home gate)
+                × (length gate.opening ≡ 3) }
         { go_both(&rt, &gate, first, second, Ask::Linger) },
         || -> (Made, Made)
-            requires { (third.gate ≡ gate_home gate) × (fourth.gate ≡ gate_home gate) × (length gate.opening ≡ 3) }
+            requires { (third.gate ≡ gate_home gate) × (fourth.gate ≡ gate_home gate)
+                × (length gate.opening ≡ 3) }
         { go_both(&rt, &gate, third, fourth, Ask::Linger) },
     );
     let sum = sum_of(&rt, a)

@@ -49,7 +49,8 @@ impl<M: Machine> Gate<M> {
     /// Opens a gate with this state. Returns the gate and its first seat. Fails if memory runs
     /// out, and returns the state.
     pub fn first(alloc: Global, state: M) -> Result<(Gate<M>, GateSeat<M>), AllocFailed<M>>
-        ensures ok { IfOk result (λ r. (r.0.opening ≡ state) × (r.0.ticket ≡ 0) × (r.1 ≡ first_seat (as_cluster r.0))) }
+        ensures ok { IfOk result (λ r. (r.0.opening ≡ state) × (r.0.ticket ≡ 0)
+            × (r.1 ≡ first_seat (as_cluster r.0))) }
         ensures refused { IfErr result (λ back. back.value ≡ state) }
     {
         Gate::first_at(alloc, state, 0)
@@ -62,7 +63,8 @@ impl<M: Machine> Gate<M> {
         ticket: u64,
     ) -> Result<(Gate<M>, GateSeat<M>), AllocFailed<M>>
         requires { ticket ≤ 2 ^ 62 }
-        ensures ok { IfOk result (λ r. (r.0.opening ≡ state) × (r.0.ticket ≡ ticket) × (r.1 ≡ first_seat (as_cluster r.0))) }
+        ensures ok { IfOk result (λ r. (r.0.opening ≡ state) × (r.0.ticket ≡ ticket)
+            × (r.1 ≡ first_seat (as_cluster r.0))) }
         ensures refused { IfErr result (λ back. back.value ≡ state) }
     {
         let mut machines = match Vec::with_capacity(alloc, 1) {
@@ -91,11 +93,15 @@ impl<M: Machine> Gate<M> {
         requires fits { M.fits (M.place self.now.opening) slot call }
         ensures same { (seat.new.gate ≡ seat.old.gate) × (seat.new.number ≡ seat.old.number) }
         ensures account { seat.new.account ≡ seat.old.account }
-        ensures reply { IfOk result (λ r. GrowsThere M.turns self.now.opening seat.old.number 0 seat.old.history (Some (entry slot moment call r)) seat.new.history) }
+        ensures reply { IfOk result (λ r. GrowsThere M.turns self.now.opening seat.old.number 0
+            seat.old.history (Some (entry slot moment call r)) seat.new.history) }
         ensures refused { IfRefusal result (λ f. f ≡ GateSpent) }
-        ensures blank { result ≡ Err OutOfMemory → GrowsThere M.turns self.now.opening seat.old.number 0 seat.old.history None seat.new.history }
-        ensures lacks { result ≡ Err OutOfMemory → LacksThere M.turns M.may_lack self.now.opening seat.old.number 0 slot call seat.new.history }
-        ensures spent { result ≡ Err (Refused GateSpent) → (seat.new.history ≡ seat.old.history) × (seat.new.spent ≡ 0 ∷ seat.old.spent) }
+        ensures blank { result ≡ Err OutOfMemory → GrowsThere M.turns self.now.opening
+            seat.old.number 0 seat.old.history None seat.new.history }
+        ensures lacks { result ≡ Err OutOfMemory → LacksThere M.turns M.may_lack self.now.opening
+            seat.old.number 0 slot call seat.new.history }
+        ensures spent { result ≡ Err (Refused GateSpent) → (seat.new.history ≡ seat.old.history)
+            × (seat.new.spent ≡ 0 ∷ seat.old.spent) }
         ensures unspent { result ≢ Err (Refused GateSpent) → seat.new.spent ≡ seat.old.spent }
         ensures room { self.now.ticket + length seat.new.history ≤ 2 ^ 62 }
         ensures again { Met 0 seat.old.spent → result ≡ Err (Refused GateSpent) }
@@ -108,7 +114,8 @@ impl<M: Machine> Gate<M> {
     pub fn split(&self, seat: &mut GateSeat<M>) -> GateSeat<M>
         requires { seat.old.gate ≡ single_home self.now }
         ensures same { seat.new ≡ split_off seat.old }
-        ensures new { (result.gate ≡ seat.old.gate) × (result.history ≡ seat.old.history) × (result.spent ≡ seat.old.spent) }
+        ensures new { (result.gate ≡ seat.old.gate) × (result.history ≡ seat.old.history)
+            × (result.spent ≡ seat.old.spent) }
         ensures account { result.account ≡ fork_of seat.old.account }
         ensures no_turn { turns_of result.number result.history ≡ [] }
     {
@@ -122,12 +129,15 @@ impl<M: Machine> Gate<M> {
         requires from { from.old.gate ≡ single_home self.now }
         requires to { to.old.gate ≡ single_home self.now }
         ensures from { from.new ≡ from.old }
-        ensures same { (to.new.gate ≡ to.old.gate) × (to.new.number ≡ to.old.number) × (to.new.spent ≡ to.old.spent) }
+        ensures same { (to.new.gate ≡ to.old.gate) × (to.new.number ≡ to.old.number)
+            × (to.new.spent ≡ to.old.spent) }
         ensures account { to.new.account ≡ to.old.account }
-        ensures seen { StartsWith to.new.history from.old.history × StartsWith to.new.history to.old.history }
+        ensures seen { StartsWith to.new.history from.old.history
+            × StartsWith to.new.history to.old.history }
         ensures legal { IsLegal M.turns self.now.opening to.new.history }
         ensures room { self.now.ticket + length to.new.history ≤ 2 ^ 62 }
-        ensures no_turn { turns_of to.new.number to.new.history ≡ turns_of to.old.number to.old.history }
+        ensures no_turn { turns_of to.new.number to.new.history
+            ≡ turns_of to.old.number to.old.history }
     {
         self.cluster.meet(&mut from.seat, &mut to.seat);
     }

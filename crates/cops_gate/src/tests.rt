@@ -167,7 +167,8 @@ fn go_both<R: Threads + Wait + Sync>(
     ask: Ask,
 ) -> (Made, Made)
     requires { (first.gate ≡ single_home gate.now) × (second.gate ≡ single_home gate.now) }
-    ensures { IfSome result.0 (λ r. r.1.gate ≡ single_home gate.now) × IfSome result.1 (λ r. r.1.gate ≡ single_home gate.now) }
+    ensures { IfSome result.0 (λ r. r.1.gate ≡ single_home gate.now)
+        × IfSome result.1 (λ r. r.1.gate ≡ single_home gate.now) }
 {
     join(
         rt,

@@ -28,17 +28,20 @@ fn draw_once<M: Machine>(
     node: usize,
     expected: u64,
 ) -> u64
-    requires board { IsSeatAt board.now.shared.table_id board.now.shared.key.value.states.items node place.old }
+    requires board { IsSeatAt board.now.shared.table_id board.now.shared.key.value.states.items node
+        place.old }
     requires opened { place.old.me.0.opening ≡ Some (start board.now.shared.key.value) }
     requires idle { (place.old.me.0.stage ≡ Idle) × (place.old.me.0.numbered ≡ true) }
     requires expected { expected < 2 ^ 62 }
-    ensures same { (place.new.table_id ≡ place.old.table_id) × (place.new.id ≡ place.old.id) × (place.new.me.1 ≡ place.old.me.1) }
+    ensures same { (place.new.table_id ≡ place.old.table_id) × (place.new.id ≡ place.old.id)
+        × (place.new.me.1 ≡ place.old.me.1) }
     ensures most { result ≤ 2 ^ 62 }
     ensures again { Met node place.old.me.0.spent → result ≡ 2 ^ 62 }
     ensures room { HasRoom place.old.me.0.opening place.old.me.0.seen }
     ensures hit { result ≡ expected → place.new.me.0 ≡ at_stage (Waits node result) place.old.me.0 }
     ensures miss { result ≢ expected → result ≢ 2 ^ 62 → place.new.me.0 ≡ place.old.me.0 }
-    ensures end { result ≢ expected → result ≡ 2 ^ 62 → place.new.me.0 ≡ spent_view node place.old.me.0 }
+    ensures end { result ≢ expected → result ≡ 2 ^ 62 →
+        place.new.me.0 ≡ spent_view node place.old.me.0 }
 {
     board
         .shared
@@ -53,11 +56,13 @@ fn look_once<M: Machine>(
     node: usize,
     ticket: u64,
 ) -> u64
-    requires board { IsSeatAt board.now.shared.table_id board.now.shared.key.value.states.items node place.old }
+    requires board { IsSeatAt board.now.shared.table_id board.now.shared.key.value.states.items node
+        place.old }
     requires opened { place.old.me.0.opening ≡ Some (start board.now.shared.key.value) }
     requires waits { (place.old.me.0.stage ≡ Waits node ticket) × (place.old.me.0.numbered ≡ true) }
     ensures same { (place.new.table_id ≡ place.old.table_id) × (place.new.id ≡ place.old.id) }
-    ensures served { result ≡ ticket → GetsAt M.turns M.place board.now.shared.key.value.states.items node ticket place.old.me place.new.me }
+    ensures served { result ≡ ticket → GetsAt M.turns M.place
+        board.now.shared.key.value.states.items node ticket place.old.me place.new.me }
     ensures waits { result ≢ ticket → place.new.me ≡ place.old.me }
 {
     let _ticket = ticket;
@@ -72,11 +77,14 @@ pub(crate) fn draw<M: Machine, R: Wait>(
     place: &mut BoardSeat<M>,
     node: usize,
 ) -> Option<u64>
-    requires board { IsSeatAt board.now.shared.table_id board.now.shared.key.value.states.items node place.old }
+    requires board { IsSeatAt board.now.shared.table_id board.now.shared.key.value.states.items node
+        place.old }
     requires opened { place.old.me.0.opening ≡ Some (start board.now.shared.key.value) }
     requires idle { (place.old.me.0.stage ≡ Idle) × (place.old.me.0.numbered ≡ true) }
-    ensures same { (place.new.table_id ≡ place.old.table_id) × (place.new.id ≡ place.old.id) × (place.new.me.1 ≡ place.old.me.1) }
-    ensures some { IfSome result (λ t. (t < 2 ^ 62) × (place.new.me.0 ≡ at_stage (Waits node t) place.old.me.0)) }
+    ensures same { (place.new.table_id ≡ place.old.table_id) × (place.new.id ≡ place.old.id)
+        × (place.new.me.1 ≡ place.old.me.1) }
+    ensures some { IfSome result (λ t. (t < 2 ^ 62)
+        × (place.new.me.0 ≡ at_stage (Waits node t) place.old.me.0)) }
     ensures none { IfNone result (place.new.me.0 ≡ spent_view node place.old.me.0) }
     ensures again { Met node place.old.me.0.spent → result ≡ None }
     ensures room { HasRoom place.old.me.0.opening place.old.me.0.seen }
@@ -102,12 +110,15 @@ fn draw_again<M: Machine, R: Wait>(
     node: usize,
     mut next: u64,
 ) -> Option<u64>
-    requires board { IsSeatAt board.now.shared.table_id board.now.shared.key.value.states.items node place.old }
+    requires board { IsSeatAt board.now.shared.table_id board.now.shared.key.value.states.items node
+        place.old }
     requires opened { place.old.me.0.opening ≡ Some (start board.now.shared.key.value) }
     requires idle { (place.old.me.0.stage ≡ Idle) × (place.old.me.0.numbered ≡ true) }
     requires next { next < 2 ^ 62 }
-    ensures same { (place.new.table_id ≡ place.old.table_id) × (place.new.id ≡ place.old.id) × (place.new.me.1 ≡ place.old.me.1) }
-    ensures some { IfSome result (λ t. (t < 2 ^ 62) × (place.new.me.0 ≡ at_stage (Waits node t) place.old.me.0)) }
+    ensures same { (place.new.table_id ≡ place.old.table_id) × (place.new.id ≡ place.old.id)
+        × (place.new.me.1 ≡ place.old.me.1) }
+    ensures some { IfSome result (λ t. (t < 2 ^ 62)
+        × (place.new.me.0 ≡ at_stage (Waits node t) place.old.me.0)) }
     ensures none { IfNone result (place.new.me.0 ≡ spent_view node place.old.me.0) }
     ensures again { Met node place.old.me.0.spent → result ≡ None }
     ensures room { HasRoom place.old.me.0.opening place.old.me.0.seen }
@@ -134,11 +145,13 @@ pub(crate) fn wait<M: Machine, R: Wait>(
     node: usize,
     ticket: u64,
 )
-    requires board { IsSeatAt board.now.shared.table_id board.now.shared.key.value.states.items node place.old }
+    requires board { IsSeatAt board.now.shared.table_id board.now.shared.key.value.states.items node
+        place.old }
     requires waits { (place.old.me.0.stage ≡ Waits node ticket) × (place.old.me.0.numbered ≡ true) }
     requires opened { place.old.me.0.opening ≡ Some (start board.now.shared.key.value) }
     ensures same { (place.new.table_id ≡ place.old.table_id) × (place.new.id ≡ place.old.id) }
-    ensures slot { GetsAt M.turns M.place board.now.shared.key.value.states.items node ticket place.old.me place.new.me }
+    ensures slot { GetsAt M.turns M.place board.now.shared.key.value.states.items node ticket
+        place.old.me place.new.me }
 {
     if look_once(board, place, node, ticket) != ticket {
         wait_on(rt, board, sleepers, place, node, ticket);
@@ -156,11 +169,13 @@ fn wait_on<M: Machine, R: Wait>(
     node: usize,
     ticket: u64,
 )
-    requires board { IsSeatAt board.now.shared.table_id board.now.shared.key.value.states.items node place.old }
+    requires board { IsSeatAt board.now.shared.table_id board.now.shared.key.value.states.items node
+        place.old }
     requires waits { (place.old.me.0.stage ≡ Waits node ticket) × (place.old.me.0.numbered ≡ true) }
     requires opened { place.old.me.0.opening ≡ Some (start board.now.shared.key.value) }
     ensures same { (place.new.table_id ≡ place.old.table_id) × (place.new.id ≡ place.old.id) }
-    ensures slot { GetsAt M.turns M.place board.now.shared.key.value.states.items node ticket place.old.me place.new.me }
+    ensures slot { GetsAt M.turns M.place board.now.shared.key.value.states.items node ticket
+        place.old.me place.new.me }
 {
     let mut tries = 0u32;
     for _ in rt.forever() {
@@ -183,10 +198,14 @@ fn turn_in_slot<M: Machine>(
     moment: u64,
     call: M::Call,
 ) -> Result<M::Reply, AllocError>
-    requires board { IsSeatAt board.now.shared.table_id board.now.shared.key.value.states.items node place.old }
-    requires holds { (machine : M) × (place.old.me.1 ≡ (node, machine) ∷ []) × M.fits (M.place machine) slot call }
-    ensures same { (place.new.table_id ≡ place.old.table_id) × (place.new.id ≡ place.old.id) × (place.new.me.0 ≡ place.old.me.0) }
-    ensures turned { (before : M) → place.old.me.1 ≡ (node, before) ∷ [] → (after : M) × (place.new.me.1 ≡ (node, after) ∷ []) × (M.place after ≡ M.place before)
+    requires board { IsSeatAt board.now.shared.table_id board.now.shared.key.value.states.items node
+        place.old }
+    requires holds { (machine : M) × (place.old.me.1 ≡ (node, machine) ∷ [])
+        × M.fits (M.place machine) slot call }
+    ensures same { (place.new.table_id ≡ place.old.table_id) × (place.new.id ≡ place.old.id)
+        × (place.new.me.0 ≡ place.old.me.0) }
+    ensures turned { (before : M) → place.old.me.1 ≡ (node, before) ∷ [] → (after : M)
+        × (place.new.me.1 ≡ (node, after) ∷ []) × (M.place after ≡ M.place before)
         × IfOk result (λ reply. M.turns before slot moment call reply after)
         × OnErr result (after ≡ before) × OnErr result (M.may_lack before slot call) }
 {
@@ -201,14 +220,17 @@ fn publish<M: Machine, T: Said<M::Call, M::Reply>>(
     ticket: u64,
     note: Note<M::Call, M::Reply>,
 )
-    requires board { IsSeatAt board.now.shared.table_id board.now.shared.key.value.states.items node place.old }
+    requires board { IsSeatAt board.now.shared.table_id board.now.shared.key.value.states.items node
+        place.old }
     requires ticket { ticket < 2 ^ 62 }
     requires note { T.entry ≡ entry_of note }
     requires opened { place.old.me.0.opening ≡ Some (start board.now.shared.key.value) }
     requires stage { (place.old.me.0.stage ≡ Holds node ticket) × (place.old.me.0.numbered ≡ true) }
-    requires turn { HasTurned M.turns M.place board.now.shared.key.value.states.items node T.entry place.old.me }
+    requires turn { HasTurned M.turns M.place board.now.shared.key.value.states.items node T.entry
+        place.old.me }
     ensures same { (place.new.table_id ≡ place.old.table_id) × (place.new.id ≡ place.old.id) }
-    ensures me { (place.new.me.1 ≡ []) × PublishedAt M.turns M.place (start board.now.shared.key.value) node T.entry place.old.me.0 place.new.me.0 }
+    ensures me { (place.new.me.1 ≡ []) × PublishedAt M.turns M.place
+        (start board.now.shared.key.value) node T.entry place.old.me.0 place.new.me.0 }
     ensures room { HasRoom (Some (start board.now.shared.key.value)) place.new.me.0.seen }
 {
     drop(note);
@@ -233,18 +255,26 @@ pub(crate) fn serve<M: Machine>(
     moment: u64,
     call: M::Call,
 ) -> Result<M::Reply, AllocError>
-    requires board { IsSeatAt board.now.shared.table_id board.now.shared.key.value.states.items node place.old }
+    requires board { IsSeatAt board.now.shared.table_id board.now.shared.key.value.states.items node
+        place.old }
     requires ticket { ticket < 2 ^ 62 }
     requires numbered { (drawn.value.me.0.numbered ≡ true) × (drawn.value.me.1 ≡ []) }
     requires opened { drawn.value.me.0.opening ≡ Some (start board.now.shared.key.value) }
-    requires gets { GetsAt M.turns M.place board.now.shared.key.value.states.items node ticket drawn.value.me place.old.me }
-    requires fits { (first : M) → get_elem? board.now.shared.key.value.states.items node ≡ some first → M.fits (M.place first) slot call }
+    requires gets { GetsAt M.turns M.place board.now.shared.key.value.states.items node ticket
+        drawn.value.me place.old.me }
+    requires fits { (first : M) → get_elem? board.now.shared.key.value.states.items node
+        ≡ some first → M.fits (M.place first) slot call }
     ensures same { (place.new.table_id ≡ place.old.table_id) × (place.new.id ≡ place.old.id) }
     ensures idle { IsIdle drawn.value.me.0 place.new.me }
     ensures room { HasRoom (Some (start board.now.shared.key.value)) place.new.me.0.seen }
-    ensures reply { IfOk result (λ r. Grows M.turns board.now.shared.key.value.states.items drawn.value.me.0.number node drawn.value.me.0.seen (Some (entry slot moment call r)) place.new.me.0.seen) }
-    ensures refused { OnErr result (Grows M.turns board.now.shared.key.value.states.items drawn.value.me.0.number node drawn.value.me.0.seen None place.new.me.0.seen) }
-    ensures lacks { OnErr result (LeavesLacking M.turns M.may_lack board.now.shared.key.value.states.items drawn.value.me.0.number node slot call place.new.me.0.seen) }
+    ensures reply { IfOk result (λ r.
+        Grows M.turns board.now.shared.key.value.states.items drawn.value.me.0.number node
+        drawn.value.me.0.seen (Some (entry slot moment call r)) place.new.me.0.seen) }
+    ensures refused { OnErr result (Grows M.turns board.now.shared.key.value.states.items
+        drawn.value.me.0.number node drawn.value.me.0.seen None place.new.me.0.seen) }
+    ensures lacks { OnErr result
+        (LeavesLacking M.turns M.may_lack board.now.shared.key.value.states.items
+        drawn.value.me.0.number node slot call place.new.me.0.seen) }
 {
     let asked = Snapshot::of(&call);
     let answer = turn_in_slot(board, place, node, slot, moment, call);
