@@ -4,3 +4,4 @@ mod connections;
 mod exchanges;
 mod memory;
 mod messages;
+mod refusals;

@@ -25,6 +25,20 @@ pub(crate) const SERVER: &str = "00000001 81
     00000001 83
     00000002 ff 07";
 
+/// A client creates a context, puts, gets, deletes the context, and gets again.
+pub(crate) const REQUESTS: &str = "00000001 02
+    00000010 04 43 0000000000000001 01 78 0002 3130
+    0000000d 05 43 0000000000000001 01 01 78
+    0000000a 03 43 0000000000000001
+    0000000d 05 43 0000000000000001 01 01 78";
+
+/// Its refusals, if its tenant is unknown.
+pub(crate) const REFUSALS: &str = "00000002 ff 02
+    00000002 ff 02
+    00000002 ff 02
+    00000002 ff 02
+    00000002 ff 02";
+
 /// A clock that stands still.
 #[derive(Drop)]
 pub(crate) struct Still {
@@ -67,7 +81,7 @@ pub(crate) fn bytes_of(rt: &impl Abort, alloc: Global, text: &str) -> Vec<u8> {
 }
 
 /// The bytes are those that the digits write.
-fn assert_bytes(rt: &impl Abort, alloc: Global, bytes: &[u8], digits: &str) {
+pub(crate) fn assert_bytes(rt: &impl Abort, alloc: Global, bytes: &[u8], digits: &str) {
     assert_eq!(rt; bytes, bytes_of(rt, alloc, digits).as_slice());
 }
 
@@ -112,6 +126,19 @@ pub(crate) fn converse<R: Read + Drop, W: Write>(
     let mut moments = Still { moment: 0 };
     let mut connection = Connection::new(alloc, Source::new(reader), Sink::new(writer));
     let ended = connection.converse(&config, &mut nodes, &mut moments);
+    let (_, sink) = connection.into_inner();
+    (ended, sink.into_inner())
+}
+
+/// Refuses each request that a client sends, and gives how that ended and the writer.
+pub(crate) fn refuse<R: Read + Drop, W: Write>(
+    alloc: Global,
+    reader: R,
+    writer: W,
+    fault: Fault,
+) -> (Result<Ended, RequestError>, W) {
+    let mut connection = Connection::new(alloc, Source::new(reader), Sink::new(writer));
+    let ended = connection.refuse_requests(fault);
     let (_, sink) = connection.into_inner();
     (ended, sink.into_inner())
 }

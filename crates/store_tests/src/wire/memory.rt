@@ -1,8 +1,8 @@
 //! Each allocation may fail: the same call again is as if it had not failed, and the bytes written
 //! are a prefix of the replies. Run with the Nth allocation failing, for each N.
-use super::exchanges::{CLIENT, SERVER, bytes_of, exchange};
+use super::exchanges::{CLIENT, REFUSALS, REQUESTS, SERVER, bytes_of, exchange, refuse};
 use crate::slate::Slate;
-use cops_types::RequestError;
+use cops_types::{Fault, RequestError};
 use cops_wire::{Decoder, Ended, Message, encode};
 use std::process::Abort;
 
@@ -58,4 +58,16 @@ fn refused_memory_leaves_a_front(rt: HostRuntime) {
     assert!(&rt; matches!(end, Ok(Ended::Clean) | Err(RequestError::OutOfMemory)));
     assert!(&rt; tells_of_memory(replies) || server.as_slice().starts_with(replies));
     assert!(&rt; end.is_err() || tells_of_memory(replies) || replies.len() == server.len());
+}
+
+#[test]
+fn refused_memory_refuses_a_prefix(rt: HostRuntime) {
+    let client = bytes_of(&rt, rt.alloc(), REQUESTS);
+    let server = bytes_of(&rt, rt.alloc(), REFUSALS);
+    let fault = Fault::UnknownTenant;
+    let (end, slate) = refuse(rt.alloc(), client.as_slice(), Slate::new(), fault);
+    let replies = slate.written();
+    assert!(&rt; matches!(end, Ok(Ended::Clean) | Err(RequestError::OutOfMemory)));
+    assert!(&rt; server.as_slice().starts_with(replies));
+    assert!(&rt; end.is_err() || replies.len() == server.len());
 }
