@@ -123,7 +123,8 @@ impl Reading {
 
     /// Returns `true` if the next read is one of the first round and another follows it.
     pub(crate) fn has_more(&self) -> bool
-        ensures { IsTrue result → IsBeforeLast self.now.round }
+        ensures more { IsTrue result → IsBeforeLast self.now.round }
+        ensures last { result ≡ false → IsBeforeLast self.now.round → ⊥ }
     {
         match &self.round {
             Round::First(round) => round.has_more(),

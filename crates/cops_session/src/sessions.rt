@@ -463,9 +463,11 @@ impl Session {
 
     /// Returns `true` if another read of the first round follows the next one.
     fn has_more(&self) -> bool
-        ensures { (trans_time moment : ℕ) → IsTrue result →
+        ensures more { (trans_time moment : ℕ) → IsTrue result →
             ReadsFirst trans_time moment self.now.running →
             ReadsOn trans_time moment self.now.running }
+        ensures last { (trans_time moment : ℕ) → result ≡ false →
+            ReadsOn trans_time moment self.now.running → ⊥ }
     {
         match &self.running {
             Some(ongoing) => match &ongoing.work {

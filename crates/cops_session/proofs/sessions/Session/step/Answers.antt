@@ -76,4 +76,4 @@ returns-then-reads_first-clause-stepped g c = λ config session stand.
     (λ fault none. absurd none)
 
 pub read_on-requires-clause-reads_on : goal.read_on-requires-clause-reads_on
-read_on-requires-clause-reads_on g c = c.has_more.ensures c.args.self.now.setting.trans_time (max c.args.self.now.moment c.args.moment) (rw c.if-has_more.true) (c.reads_first.ensures.reads (rw c.if-reads_first.true))
+read_on-requires-clause-reads_on g c = c.has_more.ensures.more c.args.self.now.setting.trans_time (max c.args.self.now.moment c.args.moment) (rw c.if-has_more.true) (c.reads_first.ensures.reads (rw c.if-reads_first.true))
