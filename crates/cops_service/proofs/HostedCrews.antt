@@ -4,8 +4,9 @@ use Rattle.cops_types.specs.declared.configs.Config.{Config}
 use Rattle.cops_node.specs.Hosting.{Hosted}
 use Rattle.cops_service.specs.Calling.{DoneForEach}
 use Rattle.cops_service.specs.Gates.{Gates}
-use Rattle.cops_service.specs.HostedCrews.{CarriesInLife, CarriesLives, CollectsInLife, CollectsLives, CollectsSomePlace, DeliversInLife, DeliversSomeLife}
+use Rattle.cops_service.specs.HostedCrews.{CarriesInLife, CarriesLives, CollectsInLife, CollectsLives, CollectsSomePlace, DeliversInLife, DeliversSomeLife, FollowsLine, Hosting}
 use Rattle.cops_service.specs.HostedDesks.{HostedSeat}
+use Rattle.cops_service.specs.declared.host_lines.HostLine.{HostLine}
 use Rattle.cops_service.specs.declared.notes.Stream.{Stream}
 use Rattle.cops_service.specs.declared.notes.TenantNode.{TenantNode}
 use Rattle.cops_service.proofs.Calling.{done_more}
@@ -23,6 +24,12 @@ module _ (config there : Config) (cluster gates : Gates Hosted) (is : there ≡ 
       → DoneForEach (CollectsInLife config cluster) (take (i + 1) places) old new
   one_more_collected places d within done one =
       done_more (CollectsInLife config cluster) places i d old between new within done (subst (λ (x : Config × Gates Hosted). CollectsInLife x.0 x.1 (get_or places i d) between new) (λ k. (is k, are k)) one)
+
+module _ (cluster gates : Gates Hosted) (are : gates ≡ cluster) where
+  pub one_more_followed : (lines : List HostLine) (d : HostLine) (i : ℕ) (old between new : Hosting) → i < length lines → DoneForEach (FollowsLine cluster) (take i lines) old between → FollowsLine gates (get_or lines i d) between new
+      → DoneForEach (FollowsLine cluster) (take (i + 1) lines) old new
+  one_more_followed lines d i old between new within done one =
+      done_more (FollowsLine cluster) lines i d old between new within done (subst (λ at. FollowsLine at (get_or lines i d) between new) are one)
 
 -- ---- what the threads do
 

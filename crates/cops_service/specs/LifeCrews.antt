@@ -1,26 +1,33 @@
 -- The threads of a service whose tenants come and go: what each did with its seat, and the one history that has it all.
-use Rattle.std.specs.Prelude.{◌≡◌, ◌⊎◌, ℕ, ◌+◌, ◌^◌, List, map, length}
+use Rattle.std.specs.Prelude.{◌≡◌, ◌⊎◌, ℕ, ◌+◌, ◌^◌, List, map, length, IsTrue}
 use Rattle.std.specs.List.{AllByRecursion}
 use Rattle.cops_types.specs.declared.configs.Config.{Config}
 use Rattle.cops_types.specs.declared.configs.Tenant.{Tenant}
+use Rattle.cops_types.specs.HeadLines.{are_sizes}
 use Rattle.cops_gate.specs.History.{turns_at}
 use Rattle.cops_gate.specs.Rule.{AreDistinctNumbers, Met}
 use Rattle.cops_gate.specs.Seats.{AreMadeBy}
 use Rattle.cops_model.specs.MainTheorem.{with_tenant_alone}
-use Rattle.cops_node.specs.Clusters.{new_nodes}
+use Rattle.cops_node.specs.Clusters.{new_nodes, shape_of}
 use Rattle.cops_node.specs.Hosting.{Hosted}
 use Rattle.cops_node.specs.Parts.{Shared}
 use Rattle.cops_service.specs.Conversing.{Converses}
 use Rattle.cops_service.specs.Gates.{Gates, openings}
 use Rattle.cops_service.specs.Hosted.{HostedLog}
 use Rattle.cops_service.specs.HostedCrews.{CallsInLife, CarriesLives, CollectsLives, FollowsLine, Hosting}
-use Rattle.cops_service.specs.HostedDesks.{HostedSeat, IsInFirstLives, hosted_node}
+use Rattle.cops_service.specs.HostedDesks.{AreHosted, HostedSeat, IsInFirstLives, hosted_node, hosted_shape}
 use Rattle.cops_service.specs.HostedLeft.{LeavesEachHosted}
 use Rattle.cops_service.specs.Repeated.{IsRepeated}
 use Rattle.cops_service.specs.Rosters.{Roster, first_roster}
 use Rattle.cops_service.specs.SeatsDone.{AreThenOne, HasSeenAll, HasSinceDone}
 use Rattle.cops_service.specs.declared.host_lines.HostLine.{HostLine}
 use Rattle.cops_service.specs.declared.roster.Life.{Life}
+
+-- the cluster has the nodes of this configuration, at which tenants come and go
+pub record IsHostedFor (config : Config) (cluster : Gates Hosted) : Type 0 where
+  pub nodes : AreHosted cluster
+  pub shape : hosted_shape cluster ≡ shape_of config
+  pub sizes : IsTrue (are_sizes config)
 
 module _ (config : Config) (cluster : Gates Hosted) where
   -- ---- workers

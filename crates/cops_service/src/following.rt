@@ -2,6 +2,7 @@
 ghost use Rattle.std.specs.Prelude.{◌≡◌, ◌≤◌};
 ghost use Rattle.cops_types.specs.OpenSlots.{open_slot_of_name};
 ghost use Rattle.cops_types.specs.Version.{last_clock};
+ghost use Rattle.cops_service.specs.Calling.{DoneForEach};
 ghost use Rattle.cops_service.specs.HostedCrews.{FollowsLine, IsLineTold, IsTenantLineTold};
 ghost use Rattle.cops_service.specs.Rosters.{IsAdmissionTold, IsCloseTold};
 
@@ -25,8 +26,9 @@ fn admit<R: Wait>(
     requires clock { tenant.first_clock ≤ last_clock }
     ensures cluster { host.new.desk.cluster.now ≡ host.old.desk.cluster.now }
     ensures seat { host.new.desk.seat.ghost_name ≡ host.old.desk.seat.ghost_name }
-    ensures told { IsAdmissionTold host.old.desk.cluster.now tenant host.old.roster
-        host.old.desk.seat.now result host.new.roster host.new.desk.seat.now }
+    ensures roster { host.new.roster.ghost_name ≡ host.old.roster.ghost_name }
+    ensures told { IsAdmissionTold host.old.desk.cluster.now tenant host.old.roster.now
+        host.old.desk.seat.now result host.new.roster.now host.new.desk.seat.now }
 {
     let name = tenant.name;
     let entered = tenant;
@@ -49,9 +51,10 @@ fn close<R: Wait>(
 ) -> HostReply
     ensures cluster { host.new.desk.cluster.now ≡ host.old.desk.cluster.now }
     ensures seat { host.new.desk.seat.ghost_name ≡ host.old.desk.seat.ghost_name }
+    ensures roster { host.new.roster.ghost_name ≡ host.old.roster.ghost_name }
     ensures told { IsCloseTold host.old.desk.cluster.now name
-        (open_slot_of_name host.old.roster.tenants name) host.old.roster
-        host.old.desk.seat.now result host.new.roster host.new.desk.seat.now }
+        (open_slot_of_name host.old.roster.now.tenants name) host.old.roster.now
+        host.old.desk.seat.now result host.new.roster.now host.new.desk.seat.now }
 {
     residents.leave(rt, name.bytes());
     match host.close(name.bytes()) {
@@ -69,9 +72,10 @@ fn admit_line<R: Wait>(
 ) -> HostReply
     ensures cluster { host.new.desk.cluster.now ≡ host.old.desk.cluster.now }
     ensures seat { host.new.desk.seat.ghost_name ≡ host.old.desk.seat.ghost_name }
+    ensures roster { host.new.roster.ghost_name ≡ host.old.roster.ghost_name }
     ensures told { IsTenantLineTold host.old.desk.cluster.now tenant
-        (record { roster = host.old.roster; seat = host.old.desk.seat.now }) result
-        (record { roster = host.new.roster; seat = host.new.desk.seat.now }) }
+        (record { roster = host.old.roster.now; seat = host.old.desk.seat.now }) result
+        (record { roster = host.new.roster.now; seat = host.new.desk.seat.now }) }
 {
     if tenant.first_clock > Version::LAST_CLOCK {
         return HostReply::Denied(Fault::Syntax);
@@ -89,9 +93,10 @@ fn reply_to<R: Wait + Clock>(
 ) -> Option<HostReply>
     ensures cluster { host.new.desk.cluster.now ≡ host.old.desk.cluster.now }
     ensures seat { host.new.desk.seat.ghost_name ≡ host.old.desk.seat.ghost_name }
+    ensures roster { host.new.roster.ghost_name ≡ host.old.roster.ghost_name }
     ensures told { IsLineTold host.old.desk.cluster.now line
-        (record { roster = host.old.roster; seat = host.old.desk.seat.now }) result
-        (record { roster = host.new.roster; seat = host.new.desk.seat.now }) }
+        (record { roster = host.old.roster.now; seat = host.old.desk.seat.now }) result
+        (record { roster = host.new.roster.now; seat = host.new.desk.seat.now }) }
 {
     match line {
         HostLine::Admit(tenant) => Some(admit_line(rt, residents, host, tenant)),
@@ -115,12 +120,34 @@ pub(crate) fn follow<R: Wait + Clock, L: HostReports>(
 )
     ensures cluster { host.new.desk.cluster.now ≡ host.old.desk.cluster.now }
     ensures seat { host.new.desk.seat.ghost_name ≡ host.old.desk.seat.ghost_name }
+    ensures roster { host.new.roster.ghost_name ≡ host.old.roster.ghost_name }
     ensures follows { FollowsLine host.old.desk.cluster.now line
-        (record { roster = host.old.roster; seat = host.old.desk.seat.now })
-        (record { roster = host.new.roster; seat = host.new.desk.seat.now }) }
+        (record { roster = host.old.roster.now; seat = host.old.desk.seat.now })
+        (record { roster = host.new.roster.now; seat = host.new.desk.seat.now }) }
 {
     let reply = reply_to(rt, residents, stop, host, line);
     if let Some(reply) = &reply {
         reports.told(reply);
+    }
+}
+
+/// Follows lines of the host, one after another.
+pub(crate) fn follow_each<R: Wait + Clock, L: HostReports>(
+    rt: &R,
+    residents: &Residents,
+    stop: &Stop,
+    reports: &L,
+    host: &mut TenantHost<'_, R>,
+    lines: &[HostLine],
+)
+    ensures cluster { host.new.desk.cluster.now ≡ host.old.desk.cluster.now }
+    ensures seat { host.new.desk.seat.ghost_name ≡ host.old.desk.seat.ghost_name }
+    ensures roster { host.new.roster.ghost_name ≡ host.old.roster.ghost_name }
+    ensures follows { DoneForEach (FollowsLine host.old.desk.cluster.now) lines.now
+        (record { roster = host.old.roster.now; seat = host.old.desk.seat.now })
+        (record { roster = host.new.roster.now; seat = host.new.desk.seat.now }) }
+{
+    for line in lines {
+        follow(rt, residents, stop, reports, host, *line);
     }
 }

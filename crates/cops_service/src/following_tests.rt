@@ -104,9 +104,10 @@ fn follow_lines<R: Wait + Clock + Abort>(rt: &R, alloc: Global, config: &Config)
 {
     let (cluster, mut seat) = Cluster::host(alloc, config).expect(rt, "memory");
     let residents = Residents::of(alloc, config).expect(rt, "memory");
+    let mut roster = Roster::of(alloc, config).expect(rt, "memory");
     let mut host = TenantHost {
         desk: HostedDesk::new(rt, &cluster, &mut seat),
-        roster: Roster::of(alloc, config).expect(rt, "memory"),
+        roster: &mut roster,
     };
     assert_lives(rt, &residents, &mut host);
     assert_others(rt, &residents, &mut host);

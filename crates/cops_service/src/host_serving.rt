@@ -1,17 +1,22 @@
 //! A service whose tenants come and go.
-ghost use Rattle.std.specs.Prelude.{◌≡◌, ◌⊎◌, map, IsTrue, IfOk, IfErr};
+ghost use Rattle.std.specs.Prelude.{◌≡◌, ◌≢◌, ◌⊎◌, ◌+◌, map, max, length, OnOk, IsTrue, IfOk, IfErr, IfSome};
+ghost use Rattle.std.specs.List.{AllByRecursion};
 ghost use Rattle.cops_types.specs.declared.faults.Fault.TheVariants.{Torn};
 ghost use Rattle.cops_types.specs.declared.request_errors.RequestError.TheVariants.{OutOfMemory, Refused};
 ghost use Rattle.cops_types.specs.HeadLines.{are_sizes};
 ghost use Rattle.cops_node.specs.Parts.{are_clocks};
+ghost use Rattle.cops_service.specs.declared.accepting.ServiceEnd.TheVariants.{NoThread};
+ghost use Rattle.cops_service.specs.Gates.{HasSplitOff, IsNewSeatOf};
 ghost use Rattle.cops_service.specs.HostedDesks.{hosted_node};
 ghost use Rattle.cops_service.specs.HostedLeft.{AreLeftByLives};
+ghost use Rattle.cops_service.specs.LifeCrews.{AreOfLifeCrew, AreServedInLives, HasSeenLives};
+ghost use Rattle.cops_service.specs.Rosters.{first_roster};
 
 use crate::accepting::ServiceEnd;
-use crate::cluster::Cluster;
+use crate::cluster::{Cluster, ServiceSeat};
 use crate::dues::Collecting;
 use crate::host_lines::HostLines;
-use crate::host_threads::{HostedCrew, Left, Together, serve_hosted};
+use crate::host_threads::{FinishedLives, HostedCrew, Left, Together, serve_hosted};
 use crate::hosted_seats::HostedSeat;
 use crate::notes::{Notes, Stream};
 use crate::reports::{Counts, HostReports, Reports, Totals};
@@ -57,13 +62,25 @@ pub struct HostServed {
     pub counts: Counts,
 }
 
+/// How a service ended, and the tenants that are open then.
+#[derive(Drop)]
+struct Outcome {
+    end: ServiceEnd,
+    roster: Roster,
+}
+
 // The seats of the workers.
-fn worker_seats<'a>(
+#[tactic(auto, using(crate::proofs::SeatsDone::one_more_split, crate::proofs::SeatsDone::is_the_first))]
+fn worker_seats(
     alloc: Global,
-    seated: &mut HostedSeat<'a>,
+    seated: &mut HostedSeat<'_>,
     workers: u64,
-) -> Result<Vec<HostedSeat<'a>>, AllocError>
-    ensures cluster { seated.new.cluster ≡ seated.old.cluster }
+) -> Result<Vec<ServiceSeat<HostedNode>>, AllocError>
+    requires first { HasSplitOff 0 seated.old.seat }
+    ensures cluster { (seated.new.cluster ≡ seated.old.cluster) × (seated.new.config ≡ seated.old.config) }
+    ensures seats { IfOk result (λ seats. AllByRecursion (λ seat. IsNewSeatOf seated.old.cluster.now seat) seats.items) }
+    ensures count { IfOk result (λ seats. length seats.items ≡ workers) }
+    ensures split { OnOk result (HasSplitOff workers seated.new.seat) }
 {
     let mut seats = Vec::new(alloc);
     for _ in 0..workers {
@@ -72,25 +89,64 @@ fn worker_seats<'a>(
     Ok(seats)
 }
 
-// The seats of the threads but the collector's.
-fn crew<'a>(
-    alloc: Global,
-    seated: &mut HostedSeat<'a>,
-    workers: u64,
-) -> Result<HostedCrew<'a>, AllocError>
-    ensures cluster { seated.new.cluster ≡ seated.old.cluster }
+// The seats of all threads: of the workers, of the host, of the one that carries and of the one that collects.
+#[tactic(auto, using(crate::proofs::SeatsDone::one_more_split, crate::proofs::SeatsDone::is_the_first))]
+fn crew(alloc: Global, seated: &mut HostedSeat<'_>, workers: u64) -> Result<HostedCrew, AllocError>
+    requires first { HasSplitOff 0 seated.old.seat }
+    ensures cluster { (seated.new.cluster ≡ seated.old.cluster) × (seated.new.config ≡ seated.old.config) }
+    ensures workers { IfOk result (λ crew. AllByRecursion (λ seat. IsNewSeatOf seated.old.cluster.now seat) crew.workers.items) }
+    ensures count { IfOk result (λ crew. length crew.workers.items ≡ workers) }
+    ensures host { IfOk result (λ crew. IsNewSeatOf seated.old.cluster.now crew.host) }
+    ensures carrier { IfOk result (λ crew. IsNewSeatOf seated.old.cluster.now crew.carrier) }
+    ensures collector { IfOk result (λ crew. IsNewSeatOf seated.old.cluster.now crew.collector) }
+    ensures split { OnOk result (HasSplitOff (workers + 1 + 1 + 1) seated.new.seat) }
 {
     let workers = worker_seats(alloc, seated, workers)?;
-    let carrier = seated.split(alloc)?;
     let host = seated.split(alloc)?;
+    let carrier = seated.split(alloc)?;
+    let collector = seated.split(alloc)?;
     Ok(HostedCrew {
         workers,
-        carrier,
         host,
+        carrier,
+        collector,
     })
 }
 
-// Serves connections at the nodes of an open cluster.
+// Ends the seats that the threads gave back. Returns how the service ended, and the tenants that are open.
+#[tactic(auto, using(crate::proofs::LifeCrews::crew_own, crate::proofs::LifeCrews::seen_lives))]
+fn end_seats<T: Moments + Copy>(
+    alloc: Global,
+    seated: &mut HostedSeat<'_>,
+    left: Option<Left>,
+    moments: T,
+    workers: u64,
+) -> Result<Outcome, AllocError>
+    requires crew { IfSome left (λ l. IfSome l.finished (λ f. AreOfLifeCrew T.Gives moments seated.old.config.now seated.old.cluster.now workers (first_roster seated.old.config.now) l.roster f.seats.items)) }
+    requires first { HasSplitOff (workers + 1 + 1 + 1) seated.old.seat }
+    ensures cluster { (seated.new.cluster ≡ seated.old.cluster) × (seated.new.config ≡ seated.old.config) }
+    ensures seen { IfOk result (λ outcome. (outcome.end ≡ NoThread) ⊎ HasSeenLives T.Gives moments seated.old.config.now seated.old.cluster.now workers (first_roster seated.old.config.now) outcome.roster seated.new.seat) }
+{
+    let _ = (moments, workers);
+    match left {
+        Some(Left { finished, roster }) => match finished {
+            Some(FinishedLives { end, seats }) => {
+                seated.end_all(seats);
+                Ok(Outcome { end, roster })
+            }
+            None => Ok(Outcome {
+                end: ServiceEnd::NoThread,
+                roster,
+            }),
+        },
+        None => Ok(Outcome {
+            end: ServiceEnd::NoThread,
+            roster: Roster::of(alloc, seated.config)?,
+        }),
+    }
+}
+
+// Serves connections at the nodes of an open cluster. In the end the seat has seen all that the threads did.
 fn serve_nodes<R, T, L>(
     rt: &R,
     alloc: Global,
@@ -100,22 +156,26 @@ fn serve_nodes<R, T, L>(
     host: Host<'_, L>,
     totals: &Totals,
     moments: T,
-) -> Result<Option<Left>, AllocError>
+) -> Result<Outcome, AllocError>
 where
     R: Threads + Wait + Clock + Sync,
     T: Moments + Copy + Send,
     L: Reports + HostReports + Sync,
-    ensures cluster { seated.new.cluster ≡ seated.old.cluster }
+    requires first { HasSplitOff 0 seated.old.seat }
+    ensures cluster { (seated.new.cluster ≡ seated.old.cluster) × (seated.new.config ≡ seated.old.config) }
+    ensures seen { IfOk result (λ outcome. (outcome.end ≡ NoThread) ⊎ HasSeenLives T.Gives moments seated.old.config.now seated.old.cluster.now (max options.workers 1) (first_roster seated.old.config.now) outcome.roster seated.new.seat) }
 {
+    let workers = worker_count(&options);
+    let crew = crew(alloc, seated, workers)?;
     let roster = Roster::of(alloc, seated.config)?;
     let residents = Residents::of(alloc, seated.config)?;
     let notes = Notes::of_slots(alloc, seated.config, MOST_TENANTS)?;
     let helpers = helpers(alloc, seated.config, &notes)?;
-    let crew = crew(alloc, seated, worker_count(&options))?;
-    let collector = seated.split(alloc)?;
     let together = Together {
         rt,
         alloc,
+        config: seated.config,
+        cluster: seated.cluster,
         listener,
         options,
         notes: &notes,
@@ -125,7 +185,8 @@ where
         residents: &residents,
         lines: host.lines,
     };
-    serve_hosted(together, crew, collector, helpers, roster, moments)
+    let left = serve_hosted(together, crew, helpers, roster, moments)?;
+    end_seats(alloc, seated, left, moments, workers)
 }
 
 // The nodes alone.
@@ -141,6 +202,7 @@ fn nodes_of(alloc: Global, hosted: Vec<HostedNode>) -> Result<Vec<Node>, AllocEr
 
 /// Serves connections as `serve_with` does, and meanwhile admits and closes tenants as the host's lines say. Clients are
 /// greeted as a tenant once all nodes have it, and until it is closed.
+#[tactic(auto, using(crate::proofs::SeatsDone::none_split))]
 pub fn serve_with_host<R, T, L>(
     rt: &R,
     alloc: Global,
@@ -157,6 +219,7 @@ where
     requires sizes { IsTrue (are_sizes config.now) }
     requires clocks { IsTrue (are_clocks config.now) }
     ensures left { IfOk result (λ served. AreLeftByLives config.now served.nodes.items) }
+    ensures served { IfOk result (λ served. served.end ≢ NoThread → AreServedInLives T.Gives moments config.now (max options.workers 1) served.nodes.items served.roster) }
     ensures refused { IfErr result (λ error. (error ≡ OutOfMemory) ⊎ (error ≡ Refused Torn)) }
 {
     let (cluster, seat) = Cluster::host(alloc, config)?;
@@ -166,7 +229,7 @@ where
         seat,
     };
     let totals = Totals::new();
-    let left = serve_nodes(
+    let outcome = serve_nodes(
         rt,
         alloc,
         &mut seated,
@@ -179,17 +242,12 @@ where
     let seat = seated.into_seat();
     let counts = totals.counts();
     let closed = cluster.close(alloc, seat)?;
+    // If all threads started, each gave its seat back, and no node is lacking.
     let Some(hosted) = closed else {
         return Err(RequestError::Refused(Fault::Torn));
     };
     let nodes = nodes_of(alloc, hosted)?;
-    let Left { end, roster } = match left {
-        Some(left) => left,
-        None => Left {
-            end: ServiceEnd::NoThread,
-            roster: Roster::of(alloc, config)?,
-        },
-    };
+    let Outcome { end, roster } = outcome;
     Ok(HostServed {
         nodes,
         roster,

@@ -1,19 +1,26 @@
 //! The threads of a service whose tenants come and go.
-ghost use Rattle.std.specs.Prelude.{◌≡◌, IfOk};
+ghost use Rattle.std.specs.Prelude.{◌≡◌, ◌⊎◌, [], length, IfOk, IfSome};
+ghost use Rattle.std.specs.List.{AllByRecursion};
 ghost use Rattle.std.specs.Thread.{IsSend, IsSync};
-ghost use Rattle.cops_types.specs.HeadLines.{are_sizes};
-ghost use Rattle.cops_node.specs.Clusters.{shape_of};
+ghost use Rattle.cops_model.specs.MainTheorem.{with_tenant_alone};
+ghost use Rattle.cops_service.specs.Gates.{IsNewSeatOf};
+ghost use Rattle.cops_service.specs.HostedCrews.{CarriesLives, CollectsLives};
+ghost use Rattle.cops_service.specs.LifeCrews.{AreOfHosts, AreOfLifeCrew, AreOfLifeServers, AreOfLifeWorkers, ConversesInLife, FollowsLines, IsHostedFor, ServesInLife, ServesLives};
+ghost use Rattle.cops_service.specs.SeatsDone.{HasSinceDone};
 
 use crate::accepting::{Accepted, ServiceEnd, accept_each};
 use crate::ahead::Ahead;
 use crate::carrying_lives::{carry_lives, collect_lives};
 use crate::clients::serve_watched;
+use crate::cluster::{Cluster, ServiceSeat};
 use crate::dues::Collecting;
-use crate::following::follow;
-use crate::hellos::open_line;
+use crate::following::follow_each;
+use crate::hellos::{Opened, open_line};
 use crate::host_lines::{HostLine, HostLines};
 use crate::hosted_desk::{HostedDesk, LifeDesk};
-use crate::hosted_seats::HostedSeat;
+use crate::life_promises::{
+    CarriesLivesPromise, CollectsLivesPromise, Followed, FollowsPromise, ServesLivesPromise,
+};
 use crate::lines::{Line, grace_of};
 use crate::living::LivingDesk;
 use crate::notes::{Notes, Stream};
@@ -26,14 +33,16 @@ use crate::tenant_host::TenantHost;
 use crate::threads::{Helpers, conclude};
 use crate::waiting::Waiting;
 use crate::watching::Stay;
-use cops_types::{Config, RequestError, Tenants};
+use cops_gate::ClusterSeat;
+use cops_node::HostedNode;
+use cops_types::{Config, RequestError, Tenant, Tenants};
 use cops_wire::{Ended, Moments};
 use crossbeam_channel::Receiver;
 use std::alloc::{AllocError, Global};
 use std::net::TcpListener;
 use std::sync::Wait;
 use std::thread;
-use std::thread::Threads;
+use std::thread::{PromisedHandle, Threads};
 use std::time::Clock;
 
 /// What all threads share.
@@ -41,6 +50,8 @@ use std::time::Clock;
 pub(crate) struct Together<'a, R, L> {
     pub(crate) rt: &'a R,
     pub(crate) alloc: Global,
+    pub(crate) config: &'a Config,
+    pub(crate) cluster: &'a Cluster<HostedNode>,
     pub(crate) listener: &'a TcpListener,
     pub(crate) options: Options,
     pub(crate) notes: &'a Notes,
@@ -51,38 +62,41 @@ pub(crate) struct Together<'a, R, L> {
     pub(crate) lines: &'a HostLines,
 }
 
-/// The seats of all threads but the collector.
+/// The seats of all threads.
 #[derive(Drop)]
-pub(crate) struct HostedCrew<'a> {
-    pub(crate) workers: Vec<HostedSeat<'a>>,
-    pub(crate) carrier: HostedSeat<'a>,
-    pub(crate) host: HostedSeat<'a>,
+pub(crate) struct HostedCrew {
+    pub(crate) workers: Vec<ServiceSeat<HostedNode>>,
+    pub(crate) host: ServiceSeat<HostedNode>,
+    pub(crate) carrier: ServiceSeat<HostedNode>,
+    pub(crate) collector: ServiceSeat<HostedNode>,
 }
 
-/// How a service ended, and the tenants that are open then.
+/// How a service ended whose threads were all started, and the seats that they gave back: those of the workers, the host's,
+/// the carrier's and the collector's.
+#[derive(Drop)]
+pub(crate) struct FinishedLives {
+    pub(crate) end: ServiceEnd,
+    pub(crate) seats: Vec<ClusterSeat<HostedNode>>,
+}
+
+/// The same, or none if a worker couldn't be started, and the tenants that are open then.
 #[derive(Drop)]
 pub(crate) struct Left {
-    pub(crate) end: ServiceEnd,
+    pub(crate) finished: Option<FinishedLives>,
     pub(crate) roster: Roster,
 }
 
+/// A thread that serves connections.
+type Worker<T> = PromisedHandle<ServiceSeat<HostedNode>, ServesLivesPromise<T>>;
+
 // ---- workers
 
-// Returns the configuration of a cluster in which a tenant is alone, or nobody is.
-fn config_alone(
-    alloc: Global,
-    config: &Config,
-    resident: Option<&Resident>,
-) -> Result<Config, AllocError>
-    ensures shape { IfOk result (λ alone. shape_of alone ≡ shape_of config.now) }
-    ensures sizes { IfOk result (λ alone. are_sizes alone ≡ are_sizes config.now) }
+// Returns the configuration of a cluster in which a tenant is alone.
+fn config_alone(alloc: Global, config: &Config, tenant: Tenant) -> Result<Config, AllocError>
+    ensures { IfOk result (λ alone. alone ≡ with_tenant_alone config.now tenant) }
 {
     let mut tenants = Tenants::new(alloc);
-    if let Some(resident) = resident
-        && tenants.is_distinct(&resident.tenant)
-    {
-        tenants.push(resident.tenant)?;
-    }
+    tenants.push(tenant)?;
     Ok(Config {
         data_centres: config.data_centres,
         shards: config.shards,
@@ -92,86 +106,153 @@ fn config_alone(
     })
 }
 
+// Returns the configuration of a cluster without tenants.
+fn config_of_none(alloc: Global, config: &Config) -> Config
+    ensures { result ≡ record config.now { tenants = [] } }
+{
+    Config {
+        data_centres: config.data_centres,
+        shards: config.shards,
+        trans_time: config.trans_time,
+        restarts: config.restarts,
+        tenants: Tenants::new(alloc),
+    }
+}
+
+// Serves a client, from whom these bytes were read, in the life of its tenant.
+fn serve_resident<R: Wait + Clock, L, T: Moments>(
+    together: Together<'_, R, L>,
+    line: &Line<'_, R>,
+    bytes: &[u8],
+    resident: Resident,
+    nodes: &mut LivingDesk<'_, R>,
+    moments: &mut T,
+) -> Result<Ended, RequestError>
+    ensures config { nodes.new.config.now ≡ nodes.old.config.now }
+    ensures desk { (nodes.new.nodes.desk.cluster.now ≡ nodes.old.nodes.desk.cluster.now) × (nodes.new.nodes.desk.seat.ghost_name ≡ nodes.old.nodes.desk.seat.ghost_name) }
+    ensures account { nodes.new.nodes.desk.seat.now.account ≡ nodes.old.nodes.desk.seat.now.account }
+    ensures serves { (nodes.new.nodes.desk.seat.now ≡ nodes.old.nodes.desk.seat.now) × (moments.new ≡ moments.old)
+        ⊎ ConversesInLife nodes.old.config.now nodes.old.nodes.desk.cluster.now T.Gives resident.life resident.tenant
+        (nodes.old.nodes.desk.seat.now, moments.old) (nodes.new.nodes.desk.seat.now, moments.new) }
+{
+    let config = config_alone(together.alloc, nodes.config, resident.tenant)?;
+    let life = resident.life;
+    nodes.turn_to(life.slot, life.number);
+    let stay = Stay::new(together.rt, together.residents, Some(life));
+    serve_watched(together.alloc, &config, line, bytes, stay, nodes, moments)
+}
+
+// Refuses the greeting of a client that names no tenant.
+fn refuse_stranger<R: Wait + Clock, L, T: Moments>(
+    together: Together<'_, R, L>,
+    line: &Line<'_, R>,
+    bytes: &[u8],
+    nodes: &mut LivingDesk<'_, R>,
+    moments: &mut T,
+) -> Result<Ended, RequestError>
+    ensures config { nodes.new.config.now ≡ nodes.old.config.now }
+    ensures desk { (nodes.new.nodes.desk.cluster.now ≡ nodes.old.nodes.desk.cluster.now) × (nodes.new.nodes.desk.seat.ghost_name ≡ nodes.old.nodes.desk.seat.ghost_name) }
+    ensures same { (nodes.new.nodes.desk.seat.now ≡ nodes.old.nodes.desk.seat.now) × (moments.new ≡ moments.old) }
+{
+    let config = config_of_none(together.alloc, nodes.config);
+    let stay = Stay::new(together.rt, together.residents, None);
+    serve_watched(together.alloc, &config, line, bytes, stay, nodes, moments)
+}
+
+// Returns the tenant that a client's greeting names, in its life.
+fn resident_of<R: Wait, L>(together: Together<'_, R, L>, opened: &Opened) -> Option<Resident> {
+    let token = opened.token?;
+    together.residents.find(together.rt, &token)
+}
+
 // Serves a client in the life of the tenant that it names. The tenant is looked up once its greeting is there.
 fn serve_life<R: Wait + Clock, L, T: Moments>(
     together: Together<'_, R, L>,
     line: &Line<'_, R>,
     nodes: &mut LivingDesk<'_, R>,
     moments: &mut T,
-) -> Result<Ended, RequestError> {
+) -> Result<Ended, RequestError>
+    ensures config { nodes.new.config.now ≡ nodes.old.config.now }
+    ensures desk { (nodes.new.nodes.desk.cluster.now ≡ nodes.old.nodes.desk.cluster.now) × (nodes.new.nodes.desk.seat.ghost_name ≡ nodes.old.nodes.desk.seat.ghost_name) }
+    ensures account { nodes.new.nodes.desk.seat.now.account ≡ nodes.old.nodes.desk.seat.now.account }
+    ensures serves { ServesInLife nodes.old.config.now nodes.old.nodes.desk.cluster.now T.Gives (nodes.old.nodes.desk.seat.now, moments.old) (nodes.new.nodes.desk.seat.now, moments.new) }
+{
     let opened = open_line(together.alloc, line)?;
-    let resident = match &opened.token {
-        Some(token) => together.residents.find(together.rt, token),
-        None => None,
-    };
-    if let Some(Resident { life, tenant: _ }) = resident {
-        nodes.turn_to(life.slot, life.number);
+    let bytes = opened.bytes.as_slice();
+    match resident_of(together, &opened) {
+        Some(resident) => serve_resident(together, line, bytes, resident, nodes, moments),
+        None => refuse_stranger(together, line, bytes, nodes, moments),
     }
-    let config = config_alone(together.alloc, nodes.config, resident.as_ref())?;
-    let stay = Stay::new(
-        together.rt,
-        together.residents,
-        resident.map(|resident| resident.life),
-    );
-    serve_watched(
-        together.alloc,
-        &config,
-        line,
-        opened.bytes.as_slice(),
-        stay,
-        nodes,
-        moments,
-    )
 }
 
-// Serves connections until none follows. One that fails ends alone.
+// Serves a connection. One that fails ends alone.
+fn serve_stream<R: Wait + Clock, L: Reports, T: Moments>(
+    together: Together<'_, R, L>,
+    nodes: &mut LivingDesk<'_, R>,
+    accepted: &Accepted,
+    moments: &mut T,
+)
+    ensures config { nodes.new.config.now ≡ nodes.old.config.now }
+    ensures desk { (nodes.new.nodes.desk.cluster.now ≡ nodes.old.nodes.desk.cluster.now) × (nodes.new.nodes.desk.seat.ghost_name ≡ nodes.old.nodes.desk.seat.ghost_name) }
+    ensures account { nodes.new.nodes.desk.seat.now.account ≡ nodes.old.nodes.desk.seat.now.account }
+    ensures serves { ServesInLife nodes.old.config.now nodes.old.nodes.desk.cluster.now T.Gives (nodes.old.nodes.desk.seat.now, moments.old) (nodes.new.nodes.desk.seat.now, moments.new) }
+{
+    let line = Line::new(
+        together.rt,
+        &accepted.stream,
+        together.stop,
+        together.options.idle,
+    );
+    let ended = serve_life(together, &line, nodes, moments);
+    // (closing reads on, so what the client did until then is asked first)
+    let course = line.course();
+    line.close();
+    conclude(
+        together.totals,
+        together.reports,
+        &accepted.peer,
+        line.tally(),
+        course,
+        &ended,
+    );
+}
+
+// Serves connections until none follows.
 fn serve_lives<R: Wait + Clock, L: Reports, T: Moments>(
     together: Together<'_, R, L>,
     nodes: &mut LivingDesk<'_, R>,
     streams: &Receiver<Accepted, Global>,
     moments: &mut T,
-) {
+)
+    ensures config { nodes.new.config.now ≡ nodes.old.config.now }
+    ensures desk { (nodes.new.nodes.desk.cluster.now ≡ nodes.old.nodes.desk.cluster.now) × (nodes.new.nodes.desk.seat.ghost_name ≡ nodes.old.nodes.desk.seat.ghost_name) }
+    ensures account { nodes.new.nodes.desk.seat.now.account ≡ nodes.old.nodes.desk.seat.now.account }
+    ensures serves { ServesLives nodes.old.config.now nodes.old.nodes.desk.cluster.now T.Gives moments.old nodes.old.nodes.desk.seat.now nodes.new.nodes.desk.seat.now }
+{
     for _ in together.rt.forever() {
         let Ok(accepted) = streams.recv(together.rt) else {
             return;
         };
-        let line = Line::new(
-            together.rt,
-            &accepted.stream,
-            together.stop,
-            together.options.idle,
-        );
-        let ended = serve_life(together, &line, nodes, moments);
-        // (closing reads on, so what the client did until then is asked first)
-        let course = line.course();
-        line.close();
-        conclude(
-            together.totals,
-            together.reports,
-            &accepted.peer,
-            line.tally(),
-            course,
-            &ended,
-        );
+        serve_stream(together, nodes, &accepted, moments);
     }
 }
 
 // The thread of a worker.
 fn work<R: Wait + Clock, L: Reports, T: Moments + Copy>(
     together: Together<'_, R, L>,
-    seat: HostedSeat<'_>,
+    mut seat: ServiceSeat<HostedNode>,
     streams: &Receiver<Accepted, Global>,
     mut moments: T,
-) {
-    let HostedSeat {
-        config,
-        cluster,
-        mut seat,
-    } = seat;
+) -> ServiceSeat<HostedNode>
+    requires open { IsHostedFor together.config.now together.cluster.now }
+    requires seat { IsNewSeatOf together.cluster.now seat }
+    ensures done { HasSinceDone together.entry.cluster.now (ServesLives together.entry.config.now together.entry.cluster.now T.Gives moments) result }
+    ensures serves { ServesLives together.entry.config.now together.entry.cluster.now T.Gives moments seat result }
+{
     let mut nodes = LivingDesk {
-        config,
+        config: together.config,
         nodes: LifeDesk {
-            desk: HostedDesk::new(together.rt, cluster, &mut seat),
+            desk: HostedDesk::new(together.rt, together.cluster, &mut seat),
             slot: 0,
             life: 0,
         },
@@ -179,25 +260,28 @@ fn work<R: Wait + Clock, L: Reports, T: Moments + Copy>(
         ahead: Ahead::new(together.alloc),
     };
     serve_lives(together, &mut nodes, streams, &mut moments);
+    seat
 }
+
+// ---- the threads that carry and collect
 
 // The thread that carries.
 fn carry<R: Wait + Clock, L, T: Moments + Copy>(
     together: Together<'_, R, L>,
-    seat: HostedSeat<'_>,
+    mut seat: ServiceSeat<HostedNode>,
     mut streams: Vec<Stream>,
     mut waiting: Waiting,
     mut moments: T,
-) {
-    let HostedSeat {
-        config,
-        cluster,
-        mut seat,
-    } = seat;
+) -> ServiceSeat<HostedNode>
+    requires open { IsHostedFor together.config.now together.cluster.now }
+    requires seat { IsNewSeatOf together.cluster.now seat }
+    ensures done { HasSinceDone together.entry.cluster.now (CarriesLives together.entry.config.now together.entry.cluster.now) result }
+    ensures carries { CarriesLives together.entry.config.now together.entry.cluster.now seat result }
+{
     let mut nodes = LivingDesk {
-        config,
+        config: together.config,
         nodes: LifeDesk {
-            desk: HostedDesk::new(together.rt, cluster, &mut seat),
+            desk: HostedDesk::new(together.rt, together.cluster, &mut seat),
             slot: 0,
             life: 0,
         },
@@ -205,24 +289,25 @@ fn carry<R: Wait + Clock, L, T: Moments + Copy>(
         ahead: Ahead::new(together.alloc),
     };
     carry_lives(&mut nodes, &mut moments, &mut streams, &mut waiting);
+    seat
 }
 
 // The thread that collects.
 fn collect<R: Wait + Clock, L, T: Moments + Copy>(
     together: Together<'_, R, L>,
-    seat: HostedSeat<'_>,
+    mut seat: ServiceSeat<HostedNode>,
     mut collecting: Collecting,
     mut moments: T,
-) {
-    let HostedSeat {
-        config,
-        cluster,
-        mut seat,
-    } = seat;
+) -> ServiceSeat<HostedNode>
+    requires open { IsHostedFor together.config.now together.cluster.now }
+    requires seat { IsNewSeatOf together.cluster.now seat }
+    ensures done { HasSinceDone together.entry.cluster.now (CollectsLives together.entry.config.now together.entry.cluster.now) result }
+    ensures collects { CollectsLives together.entry.config.now together.entry.cluster.now seat result }
+{
     let mut nodes = LivingDesk {
-        config,
+        config: together.config,
         nodes: LifeDesk {
-            desk: HostedDesk::new(together.rt, cluster, &mut seat),
+            desk: HostedDesk::new(together.rt, together.cluster, &mut seat),
             slot: 0,
             life: 0,
         },
@@ -230,58 +315,95 @@ fn collect<R: Wait + Clock, L, T: Moments + Copy>(
         ahead: Ahead::new(together.alloc),
     };
     collect_lives(&mut nodes, &mut moments, &mut collecting);
+    seat
 }
 
 // ---- the host
 
-// The thread that follows the host's lines. Returns the tenants that are open at the end.
+// Follows the host's lines at a desk until none follows.
 fn follow_lines<R: Wait + Clock, L: HostReports>(
     together: Together<'_, R, L>,
-    seat: HostedSeat<'_>,
-    roster: Roster,
-    mut taken: Vec<HostLine>,
-) -> Roster {
-    let HostedSeat {
-        config: _,
-        cluster,
-        mut seat,
-    } = seat;
-    let mut host = TenantHost {
-        desk: HostedDesk::new(together.rt, cluster, &mut seat),
-        roster,
-    };
+    host: &mut TenantHost<'_, R>,
+    taken: &mut Vec<HostLine>,
+)
+    ensures desk { (host.new.desk.cluster.now ≡ host.old.desk.cluster.now) × (host.new.desk.seat.ghost_name ≡ host.old.desk.seat.ghost_name) }
+    ensures roster { host.new.roster.ghost_name ≡ host.old.roster.ghost_name }
+    ensures account { host.new.desk.seat.now.account ≡ host.old.desk.seat.now.account }
+    ensures follows { FollowsLines host.old.desk.cluster.now host.old.roster.now host.new.roster.now host.old.desk.seat.now host.new.desk.seat.now }
+{
     for _ in together.rt.forever() {
-        let goes_on = together.lines.take(together.rt, &mut taken);
-        for line in taken.as_slice() {
-            follow(
-                together.rt,
-                together.residents,
-                together.stop,
-                together.reports,
-                &mut host,
-                *line,
-            );
-        }
+        let goes_on = together.lines.take(together.rt, taken);
+        follow_each(
+            together.rt,
+            together.residents,
+            together.stop,
+            together.reports,
+            host,
+            taken.as_slice(),
+        );
         taken.clear();
         if !goes_on {
-            return host.roster;
+            return;
         }
     }
-    unreachable!()
+}
+
+// The thread that follows the host's lines. It has no use for timestamps: a closure over references alone, without a value
+// of a type parameter, doesn't pass on what it ensures.
+fn follow_host<R: Wait + Clock, L: HostReports, T: Copy>(
+    together: Together<'_, R, L>,
+    mut seat: ServiceSeat<HostedNode>,
+    mut roster: Roster,
+    mut taken: Vec<HostLine>,
+    _moments: T,
+) -> Followed
+    requires open { IsHostedFor together.config.now together.cluster.now }
+    requires seat { IsNewSeatOf together.cluster.now seat }
+    ensures done { HasSinceDone together.entry.cluster.now (FollowsLines together.entry.cluster.now roster result.roster) result.seat }
+    ensures follows { FollowsLines together.entry.cluster.now roster result.roster seat result.seat }
+{
+    let mut host = TenantHost {
+        desk: HostedDesk::new(together.rt, together.cluster, &mut seat),
+        roster: &mut roster,
+    };
+    follow_lines(together, &mut host, &mut taken);
+    Followed { seat, roster }
 }
 
 // ---- all threads
 
+// Waits for these workers, and adds their seats.
+fn join_workers<R: Threads, T: Moments>(
+    rt: &R,
+    config: &Config,
+    cluster: &Cluster<HostedNode>,
+    moments: &T,
+    workers: Vec<Worker<T>>,
+    mut seats: Vec<ClusterSeat<HostedNode>>,
+) -> Result<Vec<ClusterSeat<HostedNode>>, AllocError>
+    requires empty { seats.items ≡ [] }
+    requires workers { AllByRecursion (λ worker. (worker.promise.config.value ≡ config.now) × (worker.promise.cluster.value ≡ cluster.now) × (worker.promise.moments.value ≡ moments.now)) workers.items }
+    ensures { IfOk result (λ seats. AreOfLifeWorkers T.Gives moments.now config.now cluster.now (length workers.items) seats.items) }
+{
+    for worker in workers {
+        seats.push(worker.join(rt).into_seat())?;
+    }
+    Ok(seats)
+}
+
 // Accepts connections and hands them to workers, which serve them until none follows.
 fn accept_and_serve<R, L, T>(
     together: Together<'_, R, L>,
-    seats: Vec<HostedSeat<'_>>,
+    seats: Vec<ServiceSeat<HostedNode>>,
     moments: T,
-) -> Result<ServiceEnd, AllocError>
+) -> Result<Option<FinishedLives>, AllocError>
 where
     R: Threads + Wait + Clock + Sync,
     L: Reports + Sync,
     T: Moments + Copy + Send,
+    requires open { IsHostedFor together.config.now together.cluster.now }
+    requires seats { AllByRecursion (λ seat. IsNewSeatOf together.cluster.now seat) seats.items }
+    ensures { IfOk result (λ r. IfSome r (λ f. AreOfLifeWorkers T.Gives moments together.entry.config.now together.entry.cluster.now (length seats.items) f.seats.items)) }
 {
     let count = seats.len();
     let (to, from) = crossbeam_channel::bounded(together.alloc, count)?;
@@ -289,18 +411,25 @@ where
     thread::scope(
         thread::scope_env(),
         together.rt,
-        move |scope| -> Result<ServiceEnd, AllocError>
-            requires { IsSync R.row × IsSync L.row × IsSend T.row }
+        move |scope| -> Result<Option<FinishedLives>, AllocError>
+            requires { IsSync R.row × IsSync L.row × IsSend T.row × IsHostedFor together.config.now together.cluster.now × AllByRecursion (λ seat. IsNewSeatOf together.cluster.now seat) seats.items × (length seats.items ≡ count) }
+            ensures { IfOk result (λ r. IfSome r (λ f. AreOfLifeWorkers T.Gives moments together.entry.config.now together.entry.cluster.now count f.seats.items)) }
         {
+            let mut workers: Vec<Worker<T>> = Vec::with_capacity(together.alloc, count)?;
+            let ended = Vec::with_capacity(together.alloc, count.saturating_add(3))?;
             for seat in seats {
-                if scope
-                    .spawn(move || work(together, seat, streams, moments))
-                    .is_err()
-                {
-                    return Ok(ServiceEnd::NoThread);
-                }
+                let Ok(worker) = scope.spawn_with(
+                    ServesLivesPromise::new(together.config, together.cluster, &moments),
+                    move || -> ServiceSeat<HostedNode>
+                        requires { IsHostedFor together.config.now together.cluster.now × IsNewSeatOf together.cluster.now seat }
+                        ensures { HasSinceDone together.entry.cluster.now (ServesLives together.entry.config.now together.entry.cluster.now T.Gives moments) result }
+                    { work(together, seat, streams, moments) },
+                ) else {
+                    return Ok(None);
+                };
+                workers.push(worker)?;
             }
-            Ok(accept_each(
+            let end = accept_each(
                 together.rt,
                 together.listener,
                 together.options.connections,
@@ -308,7 +437,16 @@ where
                 together.stop,
                 grace_of(together.options.idle),
                 together.reports,
-            ))
+            );
+            let seats = join_workers(
+                together.rt,
+                together.config,
+                together.cluster,
+                &moments,
+                workers,
+                ended,
+            )?;
+            Ok(Some(FinishedLives { end, seats }))
         },
     )
 }
@@ -316,8 +454,8 @@ where
 // Does the same beside a thread that follows the host's lines. Returns none if that thread can't be started.
 fn serve_and_host<R, L, T>(
     together: Together<'_, R, L>,
-    seats: Vec<HostedSeat<'_>>,
-    host: HostedSeat<'_>,
+    seats: Vec<ServiceSeat<HostedNode>>,
+    seat: ServiceSeat<HostedNode>,
     roster: Roster,
     moments: T,
 ) -> Result<Option<Left>, AllocError>
@@ -325,21 +463,42 @@ where
     R: Threads + Wait + Clock + Sync,
     L: Reports + HostReports + Sync,
     T: Moments + Copy + Send,
+    requires open { IsHostedFor together.config.now together.cluster.now }
+    requires seats { AllByRecursion (λ seat. IsNewSeatOf together.cluster.now seat) seats.items }
+    requires host { IsNewSeatOf together.cluster.now seat }
+    ensures { IfOk result (λ r. IfSome r (λ left. IfSome left.finished (λ f. AreOfHosts T.Gives moments together.entry.config.now together.entry.cluster.now (length seats.items) roster left.roster f.seats.items))) }
 {
     let taken = together.lines.room(together.alloc)?;
     thread::scope(
         thread::scope_env(),
         together.rt,
         move |scope| -> Result<Option<Left>, AllocError>
-            requires { IsSync R.row × IsSync L.row × IsSend T.row }
+            requires { IsSync R.row × IsSync L.row × IsSend T.row × IsHostedFor together.config.now together.cluster.now × AllByRecursion (λ seat. IsNewSeatOf together.cluster.now seat) seats.items × IsNewSeatOf together.cluster.now seat }
+            ensures { IfOk result (λ r. IfSome r (λ left. IfSome left.finished (λ f. AreOfHosts T.Gives moments together.entry.config.now together.entry.cluster.now (length seats.items) roster left.roster f.seats.items))) }
         {
-            let Ok(hosts) = scope.spawn(move || follow_lines(together, host, roster, taken)) else {
+            let Ok(hosts) = scope.spawn_with(
+                FollowsPromise::new(together.cluster, &roster),
+                move || -> Followed
+                    requires { IsHostedFor together.config.now together.cluster.now × IsNewSeatOf together.cluster.now seat }
+                    ensures { HasSinceDone together.entry.cluster.now (FollowsLines together.entry.cluster.now roster result.roster) result.seat }
+                { follow_host(together, seat, roster, taken, moments) },
+            ) else {
                 return Ok(None);
             };
-            let end = accept_and_serve(together, seats, moments);
+            let served = accept_and_serve(together, seats, moments);
             together.lines.end(together.rt);
-            let roster = hosts.join(together.rt);
-            Ok(Some(Left { end: end?, roster }))
+            let Followed { seat, roster } = hosts.join(together.rt);
+            let Some(mut finished) = served? else {
+                return Ok(Some(Left {
+                    finished: None,
+                    roster,
+                }));
+            };
+            finished.seats.push(seat.into_seat())?;
+            Ok(Some(Left {
+                finished: Some(finished),
+                roster,
+            }))
         },
     )
 }
@@ -347,7 +506,9 @@ where
 // Does the same beside a thread that carries.
 fn serve_and_carry<R, L, T>(
     together: Together<'_, R, L>,
-    crew: HostedCrew<'_>,
+    seats: Vec<ServiceSeat<HostedNode>>,
+    host: ServiceSeat<HostedNode>,
+    carrier: ServiceSeat<HostedNode>,
     roster: Roster,
     streams: Vec<Stream>,
     waiting: Waiting,
@@ -357,27 +518,45 @@ where
     R: Threads + Wait + Clock + Sync,
     L: Reports + HostReports + Sync,
     T: Moments + Copy + Send,
+    requires open { IsHostedFor together.config.now together.cluster.now }
+    requires seats { AllByRecursion (λ seat. IsNewSeatOf together.cluster.now seat) seats.items }
+    requires host { IsNewSeatOf together.cluster.now host }
+    requires carrier { IsNewSeatOf together.cluster.now carrier }
+    ensures { IfOk result (λ r. IfSome r (λ left. IfSome left.finished (λ f. AreOfLifeServers T.Gives moments together.entry.config.now together.entry.cluster.now (length seats.items) roster left.roster f.seats.items))) }
 {
-    let HostedCrew {
-        workers,
-        carrier,
-        host,
-    } = crew;
     thread::scope(
         thread::scope_env(),
         together.rt,
         move |scope| -> Result<Option<Left>, AllocError>
-            requires { IsSync R.row × IsSync L.row × IsSend T.row }
+            requires { IsSync R.row × IsSync L.row × IsSend T.row × IsHostedFor together.config.now together.cluster.now × AllByRecursion (λ seat. IsNewSeatOf together.cluster.now seat) seats.items × IsNewSeatOf together.cluster.now host × IsNewSeatOf together.cluster.now carrier }
+            ensures { IfOk result (λ r. IfSome r (λ left. IfSome left.finished (λ f. AreOfLifeServers T.Gives moments together.entry.config.now together.entry.cluster.now (length seats.items) roster left.roster f.seats.items))) }
         {
-            if scope
-                .spawn(move || carry(together, carrier, streams, waiting, moments))
-                .is_err()
-            {
+            let Ok(carries) = scope.spawn_with(
+                CarriesLivesPromise::new(together.config, together.cluster),
+                move || -> ServiceSeat<HostedNode>
+                    requires { IsHostedFor together.config.now together.cluster.now × IsNewSeatOf together.cluster.now carrier }
+                    ensures { HasSinceDone together.entry.cluster.now (CarriesLives together.entry.config.now together.entry.cluster.now) result }
+                { carry(together, carrier, streams, waiting, moments) },
+            ) else {
                 return Ok(None);
-            }
-            let left = serve_and_host(together, workers, host, roster, moments);
+            };
+            let left = serve_and_host(together, seats, host, roster, moments);
             together.notes.sent.end(together.rt);
-            left
+            let carrier = carries.join(together.rt);
+            let Some(Left { finished, roster }) = left? else {
+                return Ok(None);
+            };
+            let Some(mut finished) = finished else {
+                return Ok(Some(Left {
+                    finished: None,
+                    roster,
+                }));
+            };
+            finished.seats.push(carrier.into_seat())?;
+            Ok(Some(Left {
+                finished: Some(finished),
+                roster,
+            }))
         },
     )
 }
@@ -386,8 +565,7 @@ where
 /// none if one of these or the host's can't be started.
 pub(crate) fn serve_hosted<R, L, T>(
     together: Together<'_, R, L>,
-    crew: HostedCrew<'_>,
-    collector: HostedSeat<'_>,
+    crew: HostedCrew,
     helpers: Helpers,
     roster: Roster,
     moments: T,
@@ -396,7 +574,19 @@ where
     R: Threads + Wait + Clock + Sync,
     L: Reports + HostReports + Sync,
     T: Moments + Copy + Send,
+    requires open { IsHostedFor together.config.now together.cluster.now }
+    requires workers { AllByRecursion (λ seat. IsNewSeatOf together.cluster.now seat) crew.workers.items }
+    requires host { IsNewSeatOf together.cluster.now crew.host }
+    requires carrier { IsNewSeatOf together.cluster.now crew.carrier }
+    requires collector { IsNewSeatOf together.cluster.now crew.collector }
+    ensures { IfOk result (λ r. IfSome r (λ left. IfSome left.finished (λ f. AreOfLifeCrew T.Gives moments together.entry.config.now together.entry.cluster.now (length crew.workers.items) roster left.roster f.seats.items))) }
 {
+    let HostedCrew {
+        workers,
+        host,
+        carrier,
+        collector,
+    } = crew;
     let Helpers {
         streams,
         waiting,
@@ -406,17 +596,37 @@ where
         thread::scope_env(),
         together.rt,
         move |scope| -> Result<Option<Left>, AllocError>
-            requires { IsSync R.row × IsSync L.row × IsSend T.row }
+            requires { IsSync R.row × IsSync L.row × IsSend T.row × IsHostedFor together.config.now together.cluster.now × AllByRecursion (λ seat. IsNewSeatOf together.cluster.now seat) workers.items × IsNewSeatOf together.cluster.now host × IsNewSeatOf together.cluster.now carrier × IsNewSeatOf together.cluster.now collector }
+            ensures { IfOk result (λ r. IfSome r (λ left. IfSome left.finished (λ f. AreOfLifeCrew T.Gives moments together.entry.config.now together.entry.cluster.now (length workers.items) roster left.roster f.seats.items))) }
         {
-            if scope
-                .spawn(move || collect(together, collector, collecting, moments))
-                .is_err()
-            {
+            let Ok(collects) = scope.spawn_with(
+                CollectsLivesPromise::new(together.config, together.cluster),
+                move || -> ServiceSeat<HostedNode>
+                    requires { IsHostedFor together.config.now together.cluster.now × IsNewSeatOf together.cluster.now collector }
+                    ensures { HasSinceDone together.entry.cluster.now (CollectsLives together.entry.config.now together.entry.cluster.now) result }
+                { collect(together, collector, collecting, moments) },
+            ) else {
                 return Ok(None);
-            }
-            let left = serve_and_carry(together, crew, roster, streams, waiting, moments);
+            };
+            let left = serve_and_carry(
+                together, workers, host, carrier, roster, streams, waiting, moments,
+            );
             together.notes.grown.end(together.rt);
-            left
+            let collector = collects.join(together.rt);
+            let Some(Left { finished, roster }) = left? else {
+                return Ok(None);
+            };
+            let Some(mut finished) = finished else {
+                return Ok(Some(Left {
+                    finished: None,
+                    roster,
+                }));
+            };
+            finished.seats.push(collector.into_seat())?;
+            Ok(Some(Left {
+                finished: Some(finished),
+                roster,
+            }))
         },
     )
 }

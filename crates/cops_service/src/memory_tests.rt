@@ -242,9 +242,10 @@ fn live<R: Wait + Abort>(rt: &R, alloc: Global, config: &Config)
     requires clocks { IsTrue (are_clocks config.now) }
 {
     let (cluster, mut seat) = hosted(rt, alloc, config);
+    let mut roster = roster_of(rt, alloc, config);
     let mut host = TenantHost {
         desk: HostedDesk::new(rt, &cluster, &mut seat),
-        roster: roster_of(rt, alloc, config),
+        roster: &mut roster,
     };
     assert_comes_and_goes(rt, &mut host);
 }

@@ -15,7 +15,7 @@ use std::sync::Wait;
 #[derive(Drop)]
 pub struct TenantHost<'a, R: Wait> {
     pub desk: HostedDesk<'a, R>,
-    pub roster: Roster,
+    pub roster: &'a mut Roster,
 }
 
 impl<R: Wait> TenantHost<'_, R> {
@@ -26,14 +26,15 @@ impl<R: Wait> TenantHost<'_, R> {
         requires clock { tenant.first_clock ≤ last_clock }
         ensures cluster { self.new.desk.cluster.now ≡ self.old.desk.cluster.now }
         ensures seat { self.new.desk.seat.ghost_name ≡ self.old.desk.seat.ghost_name }
-        ensures begins { IfOk result (λ life. BeginsLife life tenant self.old.roster self.new.roster) }
+        ensures roster { self.new.roster.ghost_name ≡ self.old.roster.ghost_name }
+        ensures begins { IfOk result (λ life. BeginsLife life tenant self.old.roster.now self.new.roster.now) }
         ensures at_all { IfOk result (λ life. IsAdmittedAtAll self.old.desk.cluster.now life.slot
             life.number tenant self.old.desk.seat.now self.new.desk.seat.now) }
         ensures refused { IfErr result (λ error. IsNotAdmitted self.old.desk.cluster.now
-            self.old.roster tenant error self.old.desk.seat.now self.new.desk.seat.now
-            self.new.roster.next) }
-        ensures tenants { OnErr result (self.new.roster.tenants ≡ self.old.roster.tenants) }
-        ensures lives { OnErr result (self.new.roster.lives ≡ self.old.roster.lives) }
+            self.old.roster.now tenant error self.old.desk.seat.now self.new.desk.seat.now
+            self.new.roster.now.next) }
+        ensures tenants { OnErr result (self.new.roster.now.tenants ≡ self.old.roster.now.tenants) }
+        ensures lives { OnErr result (self.new.roster.now.lives ≡ self.old.roster.now.lives) }
     {
         let slot = self.roster.vacancy(&tenant)?;
         let number = self.roster.number_life()?;
@@ -51,19 +52,20 @@ impl<R: Wait> TenantHost<'_, R> {
     pub fn close(&mut self, name: &[u8]) -> Result<u64, Fault>
         ensures cluster { self.new.desk.cluster.now ≡ self.old.desk.cluster.now }
         ensures seat { self.new.desk.seat.ghost_name ≡ self.old.desk.seat.ghost_name }
+        ensures roster { self.new.roster.ghost_name ≡ self.old.roster.ghost_name }
         ensures slot { IfOk result (λ slot.
-            open_slot_of_name self.old.roster.tenants name.now ≡ Some slot) }
+            open_slot_of_name self.old.roster.now.tenants name.now ≡ Some slot) }
         ensures closed { IfOk result (λ slot.
-            self.new.roster.tenants ≡ slice_set self.old.roster.tenants slot None) }
+            self.new.roster.now.tenants ≡ slice_set self.old.roster.now.tenants slot None) }
         ensures at_all { IfOk result (λ slot. IsClosedAtAll self.old.desk.cluster.now slot
             self.old.desk.seat.now self.new.desk.seat.now) }
-        ensures there { IfSome (open_slot_of_name self.old.roster.tenants name.now)
+        ensures there { IfSome (open_slot_of_name self.old.roster.now.tenants name.now)
             (λ _. IsOk result) }
-        ensures absent { IfNone (open_slot_of_name self.old.roster.tenants name.now)
+        ensures absent { IfNone (open_slot_of_name self.old.roster.now.tenants name.now)
             (result ≡ Err UnknownTenant) }
-        ensures lives { self.new.roster.lives ≡ self.old.roster.lives }
-        ensures next { self.new.roster.next ≡ self.old.roster.next }
-        ensures err { OnErr result (self.new.roster ≡ self.old.roster) }
+        ensures lives { self.new.roster.now.lives ≡ self.old.roster.now.lives }
+        ensures next { self.new.roster.now.next ≡ self.old.roster.now.next }
+        ensures err { OnErr result (self.new.roster.now ≡ self.old.roster.now) }
         ensures seat_err { OnErr result (self.new.desk.seat.now ≡ self.old.desk.seat.now) }
     {
         let slot = self.roster.leave(name)?;

@@ -37,9 +37,10 @@ fn come_back<R: Wait + Abort>(rt: &R, alloc: Global, config: &Config)
     requires clocks { IsTrue (are_clocks config.now) }
 {
     let (cluster, mut seat) = Cluster::host(alloc, config).expect(rt, "memory");
+    let mut roster = Roster::of(alloc, config).expect(rt, "memory");
     let mut host = TenantHost {
         desk: HostedDesk::new(rt, &cluster, &mut seat),
-        roster: Roster::of(alloc, config).expect(rt, "memory"),
+        roster: &mut roster,
     };
     assert_lives(rt, &mut host);
 }
