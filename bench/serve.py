@@ -179,9 +179,9 @@ def admission_of(head):
 def come_and_go(service, head, lives, seconds):
     """The operator admits and closes a tenant so often, evenly over so many seconds. Returns how many lines were not followed."""
     pair = f"{admission_of(head)}\n- late\n".encode()
-    batches = 200
+    batches = lives // 10
     for _ in range(batches):
-        service.running.stdin.write(pair * (lives // batches))
+        service.running.stdin.write(pair * 10)
         service.running.stdin.flush()
         time.sleep(seconds / batches)
     until, said = time.monotonic() + 30, b""
@@ -191,28 +191,35 @@ def come_and_go(service, head, lives, seconds):
     return 2 * lives - said.count(b"- admitted late\n") - said.count(b"- closed late\n")
 
 
-def lives_once(room, program, lives):
-    """The latencies of one tenant's requests at depth 1, alone or while the operator admits and closes another one."""
+def lives_once(room, program, lives, seconds):
+    """The latencies of one tenant's requests at depth 1, alone or while the operator admits and closes another one, evenly over so
+    many seconds. Returns also how long the requests took."""
     service = Service(program, f"{room}/head", 2, 1, keeps_input=True)
-    words = load_words(room, service.port, ["--connections", 1, "--depth", 1, "--reads", 50, "--requests", 100_000])
+    words = load_words(room, service.port, ["--connections", 1, "--depth", 1, "--reads", 50, "--requests", 300_000])
+    began = time.monotonic()
     with subprocess.Popen(words, stdout=subprocess.PIPE, text=True) as load:
-        if lives and (lost := come_and_go(service, f"{room}/head", lives, 3)):
+        if lives and (lost := come_and_go(service, f"{room}/head", lives, seconds)):
             print(f"({lost} lines of the operator were not followed)", file=sys.stderr)
         if lives and load.poll() is not None:
             print("(the load ended too early)", file=sys.stderr)
         line, _ = load.communicate()
+    took = time.monotonic() - began
     service.end()
-    return told(line)[1]
+    return told(line)[1], took
 
 
 def lives(arguments, room):
     print("| Tenants | p50 µs | p99 | p99.9 |")
     print("|---|---|---|---|")
     alone, beside = [], []
+    # (the lines come over less time than the fastest run without them took)
+    seconds = lives_once(room, arguments.program, 0, 0)[1] * 0.7
     for number in range(arguments.times):
         turns = [(alone, 0), (beside, arguments.lives)]
         for runs, count in turns if number % 2 == 0 else turns[::-1]:
-            runs.append(lives_once(room, arguments.program, count))
+            figures, took = lives_once(room, arguments.program, count, seconds)
+            runs.append(figures)
+            seconds = min(seconds, took * 0.7)
     for name, runs in (("stay", alone), (f"{arguments.lives} admissions and closes", beside)):
         print(f"| {name} | " + " | ".join(f"{median(it[place] for it in runs):.0f}" for place in (1, 2, 3)) + " |")
     print(f"| ratio | " + " | ".join(f"{median(b[place] / a[place] for a, b in zip(alone, beside)):.2f}" for place in (1, 2, 3)) + " |", flush=True)
