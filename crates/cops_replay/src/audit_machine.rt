@@ -40,8 +40,10 @@ pub trait AuditBody<R> {
     ) -> Result<R, Stop<Self::Refusal>>
         requires sizes { IsTrue (are_sizes config.now) }
         requires clocks { HaveClocks layout config.now }
-        ensures ok { IfOk result (λ state. Answers (rules.starts self.now layout config.now) state out.old.items out.new.items) }
-        ensures err { IfErr result (λ stop. IfRefused stop (rules.refuses_start self.now layout config.now)) };
+        ensures ok { IfOk result (λ state.
+            Answers (rules.starts self.now layout config.now) state out.old.items out.new.items) }
+        ensures err { IfErr result
+            (λ stop. IfRefused stop (rules.refuses_start self.now layout config.now)) };
 
     /// Appends the answer to the next line to `out`.
     fn line(
@@ -51,13 +53,17 @@ pub trait AuditBody<R> {
         line: &[u8],
         out: &mut Vec<u8>,
     ) -> Result<(), Stop<Self::Refusal>>
-        ensures ok { OnOk result (Answers ((rules.lines self.now).answers state.old line.now) state.new out.old.items out.new.items) }
-        ensures err { IfErr result (λ stop. IfRefused stop ((rules.lines self.now).refuses state.old line.now)) };
+        ensures ok { OnOk result (Answers ((rules.lines self.now).answers state.old line.now)
+            state.new out.old.items out.new.items) }
+        ensures err { IfErr result
+            (λ stop. IfRefused stop ((rules.lines self.now).refuses state.old line.now)) };
 
     /// Appends the answer to the end of the input to `out`.
     fn end(&self, state: &R, out: &mut Vec<u8>) -> Result<(), Stop<Self::Refusal>>
-        ensures ok { OnOk result (Answers ((rules.lines self.now).ends state.now) state.now out.old.items out.new.items) }
-        ensures err { IfErr result (λ stop. IfRefused stop ((rules.lines self.now).refuses_end state.now)) };
+        ensures ok { OnOk result (Answers ((rules.lines self.now).ends state.now) state.now
+            out.old.items out.new.items) }
+        ensures err { IfErr result
+            (λ stop. IfRefused stop ((rules.lines self.now).refuses_end state.now)) };
 }
 
 /// An audit in its head, or past it.
@@ -93,9 +99,12 @@ fn read_line<B: AuditBody<R>, R>(
     line: &[u8],
     out: &mut Vec<u8>,
 ) -> Result<Option<R>, Stop<B::Refusal>>
-    ensures more { IfOk result (λ begun. IfNone begun (GoesOnAfter head.old line.now head.new out.old.items out.new.items)) }
-    ensures begun { IfOk result (λ begun. IfSome begun (λ state. BeginsAfter B.rules body.now head.old line.now state out.old.items out.new.items)) }
-    ensures err { IfErr result (λ stop. IfRefused stop (head_refuses B.rules body.now head.old line.now)) }
+    ensures more { IfOk result (λ begun.
+        IfNone begun (GoesOnAfter head.old line.now head.new out.old.items out.new.items)) }
+    ensures begun { IfOk result (λ begun. IfSome begun (λ state.
+        BeginsAfter B.rules body.now head.old line.now state out.old.items out.new.items)) }
+    ensures err { IfErr result
+        (λ stop. IfRefused stop (head_refuses B.rules body.now head.old line.now)) }
 {
     let layout = layout_of_head(head);
     match read_file_head(alloc, head, line) {
@@ -122,8 +131,10 @@ fn read_head_line<B: AuditBody<R>, R: Drop>(
     out: &mut Vec<u8>,
 ) -> Result<(), Stop<B::Refusal>>
     requires { IsFileInHead file.old }
-    ensures ok { OnOk result (Answers ((rules_in B.rules body.now).answers file.old line.now) file.new out.old.items out.new.items) }
-    ensures err { IfErr result (λ stop. IfRefused stop ((rules_in B.rules body.now).refuses file.old line.now)) }
+    ensures ok { OnOk result (Answers ((rules_in B.rules body.now).answers file.old line.now)
+        file.new out.old.items out.new.items) }
+    ensures err { IfErr result
+        (λ stop. IfRefused stop ((rules_in B.rules body.now).refuses file.old line.now)) }
 {
     match file {
         AuditFile::Head(head) => {

@@ -32,12 +32,19 @@ fn write_open<O: Write>(
     world: &World,
 ) -> Result<(), RequestError>
     requires { HasItsTenants world.now }
-    ensures ok { OnOk result (Appends (O.contents (sink_writer sink.old)) (O.contents (sink_writer sink.new)) (audit_text (open_config world.now) (open_nodes world.now))) }
-    ensures front { AppendsFront (O.contents (sink_writer sink.old)) (O.contents (sink_writer sink.new)) (audit_text (open_config world.now) (open_nodes world.now)) }
-    ensures replays { (config : TenantConfig) (slot : ℕ) → HasShape config (shape_of world.now.setup.head) → ReplaysSame config (nodes_of config slot world.now.nodes) }
+    ensures ok { OnOk result
+        (Appends (O.contents (sink_writer sink.old)) (O.contents (sink_writer sink.new))
+        (audit_text (open_config world.now) (open_nodes world.now))) }
+    ensures front { AppendsFront (O.contents (sink_writer sink.old))
+        (O.contents (sink_writer sink.new))
+        (audit_text (open_config world.now) (open_nodes world.now)) }
+    ensures replays { (config : TenantConfig) (slot : ℕ) →
+        HasShape config (shape_of world.now.setup.head) →
+        ReplaysSame config (nodes_of config slot world.now.nodes) }
     ensures formed { OnOk result (AreFormed (open_config world.now) (open_nodes world.now)) }
     ensures fault { IfRefusal result (λ fault. fault ≡ WriteFault) }
-    ensures write_fault { OnRefusal result (HasRisen (sink_failures sink.old) (sink_failures sink.new)) }
+    ensures write_fault { OnRefusal result
+        (HasRisen (sink_failures sink.old) (sink_failures sink.new)) }
 {
     let nodes = world.nodes();
     write_open_audit(alloc, sink, world.config(), world.tenants(), nodes)
@@ -50,12 +57,19 @@ fn write_world<O: Write>(
     world: &World,
 ) -> Result<(), RunFault<BadConfig>>
     requires { HasItsTenants world.now }
-    ensures ok { OnOk result (Appends (O.contents (sink_writer sink.old)) (O.contents (sink_writer sink.new)) (audit_text (open_config world.now) (open_nodes world.now))) }
-    ensures front { AppendsFront (O.contents (sink_writer sink.old)) (O.contents (sink_writer sink.new)) (audit_text (open_config world.now) (open_nodes world.now)) }
-    ensures replays { (config : TenantConfig) (slot : ℕ) → HasShape config (shape_of world.now.setup.head) → ReplaysSame config (nodes_of config slot world.now.nodes) }
+    ensures ok { OnOk result
+        (Appends (O.contents (sink_writer sink.old)) (O.contents (sink_writer sink.new))
+        (audit_text (open_config world.now) (open_nodes world.now))) }
+    ensures front { AppendsFront (O.contents (sink_writer sink.old))
+        (O.contents (sink_writer sink.new))
+        (audit_text (open_config world.now) (open_nodes world.now)) }
+    ensures replays { (config : TenantConfig) (slot : ℕ) →
+        HasShape config (shape_of world.now.setup.head) →
+        ReplaysSame config (nodes_of config slot world.now.nodes) }
     ensures formed { OnOk result (AreFormed (open_config world.now) (open_nodes world.now)) }
     ensures fault { IfErr result IsOfWriting }
-    ensures write_fault { IsErrOf result RunFault.WriteFault → HasRisen (sink_failures sink.old) (sink_failures sink.new) }
+    ensures write_fault { IsErrOf result RunFault.WriteFault →
+        HasRisen (sink_failures sink.old) (sink_failures sink.new) }
 {
     match write_open(alloc, sink, world) {
         Ok(()) => Ok(()),
@@ -79,16 +93,20 @@ pub fn audit_text<R: Read, O: Write>(
     // All is read, and the audit is written, or a prefix of it.
     ensures end { OnOk result (IsAtEnd (R.remaining (source_reader source.new))) }
     ensures ok { OnOk result (IfSome (R.remaining (source_reader source.old)) (λ bytes.
-        WritesAudit bytes (O.contents (sink_writer sink.old)) (O.contents (sink_writer sink.new)))) }
+        WritesAudit bytes (O.contents (sink_writer sink.old))
+        (O.contents (sink_writer sink.new)))) }
     ensures err { OnErr result (IfSome (R.remaining (source_reader source.old)) (λ bytes.
-        WritesAuditFront bytes (O.contents (sink_writer sink.old)) (O.contents (sink_writer sink.new)))) }
+        WritesAuditFront bytes (O.contents (sink_writer sink.old))
+        (O.contents (sink_writer sink.new)))) }
 
     // A replay of any tenant's records in it finds them all the same.
-    ensures replays { OnOk result (IfSome (R.remaining (source_reader source.old)) (λ bytes. ReplaysSameFor (head_of (lines_of bytes)))) }
+    ensures replays { OnOk result (IfSome (R.remaining (source_reader source.old))
+        (λ bytes. ReplaysSameFor (head_of (lines_of bytes)))) }
 
     // So does a replay of the text for any tenant.
     ensures says_same { OnOk result (IfSome (R.remaining (source_reader source.old)) (λ bytes.
-        (text : List ℕ) → audit_out bytes ≡ Written text → SaysSameFor (head_of (lines_of bytes)) text)) }
+        (text : List ℕ) → audit_out bytes ≡ Written text →
+        SaysSameFor (head_of (lines_of bytes)) text)) }
 
     // Each record in it has the form of a line, and so a tenant's part can be cut out of it.
     ensures formed { OnOk result (IfSome (R.remaining (source_reader source.old)) (λ bytes.
@@ -96,7 +114,8 @@ pub fn audit_text<R: Read, O: Write>(
 
     // A bad head is refused, and nothing is written then.
     ensures bad_head { IfErr result (λ fault. IfRunRefused fault (λ bad.
-        IfSome (R.remaining (source_reader source.old)) (λ bytes. head_of (lines_of bytes) ≡ BadAt bad.line))) }
+        IfSome (R.remaining (source_reader source.old))
+        (λ bytes. head_of (lines_of bytes) ≡ BadAt bad.line))) }
     ensures unwritten { IfErr result (λ fault. IfRunRefused fault (λ bad.
         Keeps (O.contents (sink_writer sink.old)) (O.contents (sink_writer sink.new)))) }
 
@@ -104,7 +123,8 @@ pub fn audit_text<R: Read, O: Write>(
     ensures read_fault { IsErrOf result RunFault.ReadFault →
         HasRisen (source_failures source.old) (source_failures source.new)
         ⊎ HasRisenBy (source_reads source.old) (source_reads source.new) 4294967296 }
-    ensures write_fault { IsErrOf result RunFault.WriteFault → HasRisen (sink_failures sink.old) (sink_failures sink.new) }
+    ensures write_fault { IsErrOf result RunFault.WriteFault →
+        HasRisen (sink_failures sink.old) (sink_failures sink.new) }
 {
     let world = match script_world(alloc, source) {
         Ok(world) => world,

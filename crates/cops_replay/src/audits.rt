@@ -40,7 +40,8 @@ fn put_row<W: Write>(
     ensures text { PutsText (ended (record_line name.now (record_of id row.now)))
         (page out.old.items (W.contents (sink_writer sink.old)) (sink_failures sink.old)) result
         (page out.new.items (W.contents (sink_writer sink.new)) (sink_failures sink.new)) }
-    ensures formed { OnOk result (IsTrue (has_form row.now.reply) → IsTrue (is_record (record_of id row.now))) }
+    ensures formed { OnOk result
+        (IsTrue (has_form row.now.reply) → IsTrue (is_record (record_of id row.now))) }
 {
     push_row(out, place, name, id, row)?;
     drain_full(out, sink)
@@ -57,10 +58,13 @@ fn put_node<W: Write>(
     node: &Node,
 ) -> Result<(), RequestError>
     requires { place_at slot node.now ≡ Some (place_of (tenant_config config.now tenant.now) id) }
-    ensures text { PutsText (records_text tenant.now.name (map (record_of id) (solo_of slot (place_of (tenant_config config.now tenant.now) id) node.now).trail))
+    ensures text { PutsText (records_text tenant.now.name (map (record_of id)
+        (solo_of slot (place_of (tenant_config config.now tenant.now) id) node.now).trail))
         (page out.old.items (W.contents (sink_writer sink.old)) (sink_failures sink.old)) result
         (page out.new.items (W.contents (sink_writer sink.new)) (sink_failures sink.new)) }
-    ensures formed { OnOk result (AllByRecursion (λ (told : Record). IsTrue (is_record told)) (map (record_of id) (solo_of slot (place_of (tenant_config config.now tenant.now) id) node.now).trail)) }
+    ensures formed { OnOk result
+        (AllByRecursion (λ (told : Record). IsTrue (is_record told)) (map (record_of id)
+        (solo_of slot (place_of (tenant_config config.now tenant.now) id) node.now).trail)) }
 {
     let name = tenant.name;
     let mut row_place = Vec::new(*out.allocator());
@@ -86,11 +90,16 @@ fn put_tenant<W: Write>(
 ) -> Result<(), RequestError>
     requires sizes { IsTrue (are_sizes config.now) }
     requires nodes { IsCluster (shape_of config.now) nodes.now }
-    requires tenant { HasTenant (tenant_config config.now tenant.now) slot (record { shape = shape_of config.now; nodes = nodes.now }) }
-    ensures text { PutsText (records_text tenant.now.name (records_of (tenant_config config.now tenant.now) (his_nodes config.now nodes.now (tenant_config config.now tenant.now) slot)))
+    requires tenant { HasTenant (tenant_config config.now tenant.now) slot
+        (record { shape = shape_of config.now; nodes = nodes.now }) }
+    ensures text { PutsText
+        (records_text tenant.now.name (records_of (tenant_config config.now tenant.now)
+        (his_nodes config.now nodes.now (tenant_config config.now tenant.now) slot)))
         (page out.old.items (W.contents (sink_writer sink.old)) (sink_failures sink.old)) result
         (page out.new.items (W.contents (sink_writer sink.new)) (sink_failures sink.new)) }
-    ensures formed { OnOk result (AllByRecursion (λ (told : Record). IsTrue (is_record told)) (records_of (tenant_config config.now tenant.now) (his_nodes config.now nodes.now (tenant_config config.now tenant.now) slot))) }
+    ensures formed { OnOk result (AllByRecursion (λ (told : Record). IsTrue (is_record told))
+        (records_of (tenant_config config.now tenant.now)
+        (his_nodes config.now nodes.now (tenant_config config.now tenant.now) slot))) }
 {
     let shards = config.shards;
     for place in 0..nodes.len() {
@@ -118,10 +127,12 @@ fn put_records<W: Write>(
 ) -> Result<(), RequestError>
     requires sizes { IsTrue (are_sizes config.now) }
     requires nodes { AreNodesAt config.now tenants.now slots.now nodes.now }
-    ensures text { PutsText (tenants_text (with_tenants config.now tenants.now) (nodes_at config.now slots.now nodes.now) 0 tenants.now)
+    ensures text { PutsText (tenants_text (with_tenants config.now tenants.now)
+        (nodes_at config.now slots.now nodes.now) 0 tenants.now)
         (page out.old.items (W.contents (sink_writer sink.old)) (sink_failures sink.old)) result
         (page out.new.items (W.contents (sink_writer sink.new)) (sink_failures sink.new)) }
-    ensures formed { OnOk result (AreFormed (with_tenants config.now tenants.now) (nodes_at config.now slots.now nodes.now)) }
+    ensures formed { OnOk result (AreFormed (with_tenants config.now tenants.now)
+        (nodes_at config.now slots.now nodes.now)) }
 {
     for place in 0..tenants.len() {
         let tenant = &tenants[place];
@@ -166,16 +177,20 @@ pub(crate) fn write_audit_at<W: Write>(
     requires nodes { AreNodesAt config.now tenants.now slots.now nodes.now }
 
     // All is written, or a prefix of it.
-    ensures ok { OnOk result (Appends (W.contents (sink_writer sink.old)) (W.contents (sink_writer sink.new)) (audit_at config.now tenants.now slots.now nodes.now)) }
-    ensures front { AppendsFront (W.contents (sink_writer sink.old)) (W.contents (sink_writer sink.new)) (audit_at config.now tenants.now slots.now nodes.now) }
+    ensures ok { OnOk result (Appends (W.contents (sink_writer sink.old))
+        (W.contents (sink_writer sink.new)) (audit_at config.now tenants.now slots.now nodes.now)) }
+    ensures front { AppendsFront (W.contents (sink_writer sink.old))
+        (W.contents (sink_writer sink.new)) (audit_at config.now tenants.now slots.now nodes.now) }
 
     // Each record that is written has the form of a line.
-    ensures formed { OnOk result (AreFormed (with_tenants config.now tenants.now) (nodes_at config.now slots.now nodes.now)) }
+    ensures formed { OnOk result (AreFormed (with_tenants config.now tenants.now)
+        (nodes_at config.now slots.now nodes.now)) }
 
     // Memory ran out, or the writer failed in this call.
     ensures fault { IfRefusal result (λ fault. fault ≡ WriteFault) }
     ensures same { OnOk result (sink_failures sink.new ≡ sink_failures sink.old) }
-    ensures write_fault { OnRefusal result (HasRisen (sink_failures sink.old) (sink_failures sink.new)) }
+    ensures write_fault { OnRefusal result
+        (HasRisen (sink_failures sink.old) (sink_failures sink.new)) }
 {
     let mut out = Vec::new(alloc);
     if let Err(error) = put_head(&mut out, sink, config, tenants) {
@@ -223,8 +238,10 @@ pub fn write_audit<W: Write>(
     requires nodes { AreNodesOf config.now nodes.now }
 
     // All is written, or a prefix of it.
-    ensures ok { OnOk result (Appends (W.contents (sink_writer sink.old)) (W.contents (sink_writer sink.new)) (audit_of config.now nodes.now)) }
-    ensures front { AppendsFront (W.contents (sink_writer sink.old)) (W.contents (sink_writer sink.new)) (audit_of config.now nodes.now) }
+    ensures ok { OnOk result (Appends (W.contents (sink_writer sink.old))
+        (W.contents (sink_writer sink.new)) (audit_of config.now nodes.now)) }
+    ensures front { AppendsFront (W.contents (sink_writer sink.old))
+        (W.contents (sink_writer sink.new)) (audit_of config.now nodes.now) }
 
     // Each record that is written has the form of a line.
     ensures formed { OnOk result (AreFormed config.now (his_nodes config.now nodes.now)) }
@@ -232,13 +249,15 @@ pub fn write_audit<W: Write>(
     // A replay of each tenant's records finds them all the same. A replay of the text says so, if
     // the configuration is that of a head, and no record's line is too long.
     ensures replays { AllReplaySame config.now (his_nodes config.now nodes.now) }
-    ensures says_same { (lines rest : List (List ℕ)) → head_of lines ≡ Whole config.now rest → HaveLines config.now (his_nodes config.now nodes.now) →
+    ensures says_same { (lines rest : List (List ℕ)) → head_of lines ≡ Whole config.now rest →
+        HaveLines config.now (his_nodes config.now nodes.now) →
         SaysSame config.now (his_nodes config.now nodes.now) (audit_of config.now nodes.now) }
 
     // Memory ran out, or the writer failed in this call.
     ensures fault { IfRefusal result (λ fault. fault ≡ WriteFault) }
     ensures same { OnOk result (sink_failures sink.new ≡ sink_failures sink.old) }
-    ensures write_fault { OnRefusal result (HasRisen (sink_failures sink.old) (sink_failures sink.new)) }
+    ensures write_fault { OnRefusal result
+        (HasRisen (sink_failures sink.old) (sink_failures sink.new)) }
 {
     audits_fit(nodes);
     let tenants = config.tenants.as_slice();

@@ -40,7 +40,8 @@ fn push_lone_head(
     config: &Config,
     tenant: &Tenant,
 ) -> Result<(), AllocError>
-    ensures { OnOk result (out.new.items ≡ out.old.items ++ flat_map ended (layout_lines layout ++ lone_head_lines config.now tenant.now)) }
+    ensures { OnOk result (out.new.items ≡ out.old.items
+        ++ flat_map ended (layout_lines layout ++ lone_head_lines config.now tenant.now)) }
 {
     push_layout_of(out, layout)?;
     push_cluster(out, config)?;
@@ -56,9 +57,11 @@ fn begin_part(
     config: &Config,
     name: &[u8],
 ) -> Result<(), Stop<PartRefusal>>
-    ensures ok { OnOk result ((text : List ℕ) × IsLoneHead layout name.now config.now text × (out.new.items ≡ out.old.items ++ text)) }
+    ensures ok { OnOk result ((text : List ℕ) × IsLoneHead layout name.now config.now text
+        × (out.new.items ≡ out.old.items ++ text)) }
     ensures err { IfErr result (λ stop. IfRefused stop (λ refusal. refusal ≡ UnknownTenant)) }
-    ensures unknown { IfErr result (λ stop. IfRefused stop (λ refusal. slot_of_name config.now.tenants name.now ≡ None)) }
+    ensures unknown { IfErr result
+        (λ stop. IfRefused stop (λ refusal. slot_of_name config.now.tenants name.now ≡ None)) }
 {
     let Some(slot) = config.tenants.slot_of_name(name) else {
         return Err(Stop::Refused(PartRefusal::UnknownTenant));

@@ -33,13 +33,16 @@ pub fn extract_text<R: Read, O: Write>(
     // All is read, and the part is written, or a prefix of it.
     ensures end { OnOk result (IsAtEnd (R.remaining (source_reader source.new))) }
     ensures ok { OnOk result (IfSome (R.remaining (source_reader source.old)) (λ bytes.
-        WritesPart tenant.now bytes (O.contents (sink_writer sink.old)) (O.contents (sink_writer sink.new)))) }
+        WritesPart tenant.now bytes (O.contents (sink_writer sink.old))
+        (O.contents (sink_writer sink.new)))) }
     ensures err { OnErr result (IfSome (R.remaining (source_reader source.old)) (λ bytes.
-        WritesPartFront tenant.now bytes (O.contents (sink_writer sink.old)) (O.contents (sink_writer sink.new)))) }
+        WritesPartFront tenant.now bytes (O.contents (sink_writer sink.old))
+        (O.contents (sink_writer sink.new)))) }
 
     // A bad head is refused, and so is a tenant that the head lacks. Nothing is written then.
     ensures refused { IfErr result (λ fault. IfRunRefused fault (λ refusal.
-        IfSome (R.remaining (source_reader source.old)) (λ bytes. RefusesPartOf tenant.now bytes refusal))) }
+        IfSome (R.remaining (source_reader source.old))
+        (λ bytes. RefusesPartOf tenant.now bytes refusal))) }
     ensures unwritten { IfErr result (λ fault. IfRunRefused fault (λ refusal.
         Keeps (O.contents (sink_writer sink.old)) (O.contents (sink_writer sink.new)))) }
 
@@ -47,7 +50,8 @@ pub fn extract_text<R: Read, O: Write>(
     ensures read_fault { IsErrOf result RunFault.ReadFault →
         HasRisen (source_failures source.old) (source_failures source.new)
         ⊎ HasRisenBy (source_reads source.old) (source_reads source.new) 4294967296 }
-    ensures write_fault { IsErrOf result RunFault.WriteFault → HasRisen (sink_failures sink.old) (sink_failures sink.new) }
+    ensures write_fault { IsErrOf result RunFault.WriteFault →
+        HasRisen (sink_failures sink.old) (sink_failures sink.new) }
 {
     let name = Bytes::new(alloc, tenant)?;
     let mut part: AuditMachine<PartOf, ()> = new_audit(PartOf { name });

@@ -80,11 +80,15 @@ pub(crate) fn read_file_head(
     line: &[u8],
 ) -> Result<Option<Config>, Stop<BadConfig>>
     ensures more { IfOk result (λ begun. IfNone begun (ContinuesBy head.old line.now head.new)) }
-    ensures begun { IfOk result (λ begun. IfSome begun (λ config. front_with_by (layout_in head.old) (front_in head.old) line.now ≡ Some (Begun config))) }
+    ensures begun { IfOk result (λ begun. IfSome begun (λ config.
+        front_with_by (layout_in head.old) (front_in head.old) line.now ≡ Some (Begun config))) }
     ensures sizes { IfOk result (λ begun. IfSome begun (λ config. IsTrue (are_sizes config))) }
-    ensures clocks { IfOk result (λ begun. IfSome begun (λ config. HaveClocks (layout_in head.old) config)) }
-    ensures err { IfErr result (λ stop. IfRefused stop (λ bad. front_with_by (layout_in head.old) (front_in head.old) line.now ≡ None)) }
-    ensures number { IfErr result (λ stop. IfRefused stop (λ bad. bad.line ≡ counted (count_in head.old))) }
+    ensures clocks { IfOk result
+        (λ begun. IfSome begun (λ config. HaveClocks (layout_in head.old) config)) }
+    ensures err { IfErr result (λ stop. IfRefused stop
+        (λ bad. front_with_by (layout_in head.old) (front_in head.old) line.now ≡ None)) }
+    ensures number { IfErr result
+        (λ stop. IfRefused stop (λ bad. bad.line ≡ counted (count_in head.old))) }
 {
     match head {
         FileHead::Early(head) => read_old_head(alloc, head, line),

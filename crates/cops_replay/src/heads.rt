@@ -11,7 +11,8 @@ use uuid::Uuid;
 
 /// Appends each number after a space.
 fn push_numbers(out: &mut Vec<u8>, numbers: &[u64]) -> Result<(), AllocError>
-    ensures { OnOk result (out.new.items ≡ out.old.items ++ flat_map (λ number. 32 ∷ decimal number) numbers.now) }
+    ensures { OnOk result
+        (out.new.items ≡ out.old.items ++ flat_map (λ number. 32 ∷ decimal number) numbers.now) }
 {
     for number in numbers {
         out.push(b' ')?;
@@ -95,7 +96,8 @@ pub(crate) fn push_head(
     config: &Config,
     tenants: &[Tenant],
 ) -> Result<(), AllocError>
-    ensures { OnOk result (out.new.items ≡ out.old.items ++ head_text (with_tenants config.now tenants.now)) }
+    ensures { OnOk result
+        (out.new.items ≡ out.old.items ++ head_text (with_tenants config.now tenants.now)) }
 {
     push_layout(out)?;
     push_cluster(out, config)?;

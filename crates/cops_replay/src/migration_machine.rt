@@ -49,9 +49,11 @@ fn read_old_head(
     line: &[u8],
     number: u64,
 ) -> Result<Option<Config>, Stop<MigrationRefusal>>
-    ensures more { IfOk result (λ begun. IfNone begun (OldHeadGoesOn reader.old line.now reader.new)) }
+    ensures more { IfOk result
+        (λ begun. IfNone begun (OldHeadGoesOn reader.old line.now reader.new)) }
     ensures begun { IfOk result (λ begun. IfSome begun (OldHeadEnds reader.old line.now)) }
-    ensures err { IfErr result (λ stop. IfRefused stop (OldHeadIsRefused reader.old line.now number)) }
+    ensures err { IfErr result
+        (λ stop. IfRefused stop (OldHeadIsRefused reader.old line.now number)) }
 {
     match reader.line(alloc, line) {
         Ok(HeadLine::More) => {
@@ -128,7 +130,8 @@ fn answer_head(
     out: &mut Vec<u8>,
 ) -> Result<(), Stop<MigrationRefusal>>
     requires { IsInOldHead part.old }
-    ensures ok { OnOk result (Answers (part_answers part.old line.now) part.new out.old.items out.new.items) }
+    ensures ok { OnOk result
+        (Answers (part_answers part.old line.now) part.new out.old.items out.new.items) }
     ensures err { IfErr result (λ stop. IfRefused stop (part_refuses part.old line.now number)) }
 {
     match part {
@@ -152,7 +155,8 @@ fn answer_line(
     number: u64,
     out: &mut Vec<u8>,
 ) -> Result<(), Stop<MigrationRefusal>>
-    ensures ok { OnOk result (Answers (part_answers part.old line.now) part.new out.old.items out.new.items) }
+    ensures ok { OnOk result
+        (Answers (part_answers part.old line.now) part.new out.old.items out.new.items) }
     ensures err { IfErr result (λ stop. IfRefused stop (part_refuses part.old line.now number)) }
 {
     match part {

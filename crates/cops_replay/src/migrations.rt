@@ -64,15 +64,19 @@ fn migrate_lines<R: Read, O: Write>(
     ensures ok { IfOk result (λ migrated. IfSome (R.remaining (source_reader source.old)) (λ bytes.
         (migration_of bytes).outcome ≡ Ok migrated.records)) }
     ensures text { OnOk result (IfSome (R.remaining (source_reader source.old)) (λ bytes.
-        Appends (O.contents (sink_writer sink.old)) (O.contents (sink_writer sink.new)) (migration_of bytes).text)) }
+        Appends (O.contents (sink_writer sink.old)) (O.contents (sink_writer sink.new))
+        (migration_of bytes).text)) }
     ensures front { OnErr result (IfSome (R.remaining (source_reader source.old)) (λ bytes.
-        AppendsFront (O.contents (sink_writer sink.old)) (O.contents (sink_writer sink.new)) (migration_of bytes).text)) }
+        AppendsFront (O.contents (sink_writer sink.old)) (O.contents (sink_writer sink.new))
+        (migration_of bytes).text)) }
     ensures refused { IfErr result (λ fault. IfRunRefused fault (λ refusal.
-        IfSome (R.remaining (source_reader source.old)) (λ bytes. (migration_of bytes).outcome ≡ Err refusal))) }
+        IfSome (R.remaining (source_reader source.old))
+        (λ bytes. (migration_of bytes).outcome ≡ Err refusal))) }
     ensures read_fault { IsErrOf result RunFault.ReadFault →
         HasRisen (source_failures source.old) (source_failures source.new)
         ⊎ HasRisenBy (source_reads source.old) (source_reads source.new) 4294967296 }
-    ensures write_fault { IsErrOf result RunFault.WriteFault → HasRisen (sink_failures sink.old) (sink_failures sink.new) }
+    ensures write_fault { IsErrOf result RunFault.WriteFault →
+        HasRisen (sink_failures sink.old) (sink_failures sink.new) }
 {
     match run_lines(audit, alloc, TURNS, LONGEST_RECORD, source, sink) {
         Ok(()) => Ok(Migrated {
@@ -100,19 +104,23 @@ pub fn migrate_text<R: Read, O: Write>(
     ensures ok { IfOk result (λ migrated. IfSome (R.remaining (source_reader source.old)) (λ bytes.
         (migration_of bytes).outcome ≡ Ok migrated.records)) }
     ensures text { OnOk result (IfSome (R.remaining (source_reader source.old)) (λ bytes.
-        Appends (O.contents (sink_writer sink.old)) (O.contents (sink_writer sink.new)) (migration_of bytes).text)) }
+        Appends (O.contents (sink_writer sink.old)) (O.contents (sink_writer sink.new))
+        (migration_of bytes).text)) }
 
     // Or a prefix of the text before the first bad line is written, and that line is returned.
     ensures front { OnErr result (IfSome (R.remaining (source_reader source.old)) (λ bytes.
-        AppendsFront (O.contents (sink_writer sink.old)) (O.contents (sink_writer sink.new)) (migration_of bytes).text)) }
+        AppendsFront (O.contents (sink_writer sink.old)) (O.contents (sink_writer sink.new))
+        (migration_of bytes).text)) }
     ensures refused { IfErr result (λ fault. IfRunRefused fault (λ refusal.
-        IfSome (R.remaining (source_reader source.old)) (λ bytes. (migration_of bytes).outcome ≡ Err refusal))) }
+        IfSome (R.remaining (source_reader source.old))
+        (λ bytes. (migration_of bytes).outcome ≡ Err refusal))) }
 
     // The reader or the writer failed in this call, or the turns are used up.
     ensures read_fault { IsErrOf result RunFault.ReadFault →
         HasRisen (source_failures source.old) (source_failures source.new)
         ⊎ HasRisenBy (source_reads source.old) (source_reads source.new) 4294967296 }
-    ensures write_fault { IsErrOf result RunFault.WriteFault → HasRisen (sink_failures sink.old) (sink_failures sink.new) }
+    ensures write_fault { IsErrOf result RunFault.WriteFault →
+        HasRisen (sink_failures sink.old) (sink_failures sink.new) }
 {
     let mut audit = new_old_audit();
     migrate_lines(alloc, &mut audit, source, sink)

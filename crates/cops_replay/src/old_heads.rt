@@ -26,11 +26,15 @@ pub(crate) fn read_old_head(
     head: &mut OldHeadSoFar,
     line: &[u8],
 ) -> Result<Option<Config>, Stop<BadConfig>>
-    ensures more { IfOk result (λ begun. IfNone begun (OldHeadContinues head.old.reader head.old.lines line.now head.new.reader head.new.lines)) }
-    ensures begun { IfOk result (λ begun. IfSome begun (λ config. old_front_with head.old.reader line.now ≡ Some (Begun config))) }
+    ensures more { IfOk result (λ begun. IfNone begun
+        (OldHeadContinues head.old.reader head.old.lines line.now head.new.reader head.new.lines)) }
+    ensures begun { IfOk result (λ begun.
+        IfSome begun (λ config. old_front_with head.old.reader line.now ≡ Some (Begun config))) }
     ensures sizes { IfOk result (λ begun. IfSome begun (λ config. IsTrue (are_sizes config))) }
-    ensures err { IfErr result (λ stop. IfRefused stop (λ bad. old_front_with head.old.reader line.now ≡ None)) }
-    ensures number { IfErr result (λ stop. IfRefused stop (λ bad. bad.line ≡ counted head.old.lines)) }
+    ensures err { IfErr result
+        (λ stop. IfRefused stop (λ bad. old_front_with head.old.reader line.now ≡ None)) }
+    ensures number { IfErr result
+        (λ stop. IfRefused stop (λ bad. bad.line ≡ counted head.old.lines)) }
 {
     let number = head.lines.saturating_add(1);
     match head.reader.line(alloc, line) {

@@ -91,23 +91,32 @@ pub fn write_open_audit<W: Write>(
     requires nodes { AreNodesOfOpen config.now tenants.now nodes.now }
 
     // All is written, or a prefix of it.
-    ensures ok { OnOk result (Appends (W.contents (sink_writer sink.old)) (W.contents (sink_writer sink.new)) (open_audit_of config.now tenants.now nodes.now)) }
-    ensures front { AppendsFront (W.contents (sink_writer sink.old)) (W.contents (sink_writer sink.new)) (open_audit_of config.now tenants.now nodes.now) }
+    ensures ok { OnOk result (Appends (W.contents (sink_writer sink.old))
+        (W.contents (sink_writer sink.new)) (open_audit_of config.now tenants.now nodes.now)) }
+    ensures front { AppendsFront (W.contents (sink_writer sink.old))
+        (W.contents (sink_writer sink.new)) (open_audit_of config.now tenants.now nodes.now) }
 
     // Each record that is written has the form of a line.
-    ensures formed { OnOk result (AreFormed (open_config_of config.now tenants.now) (open_nodes_of config.now tenants.now nodes.now)) }
+    ensures formed { OnOk result (AreFormed (open_config_of config.now tenants.now)
+        (open_nodes_of config.now tenants.now nodes.now)) }
 
     // A replay of each open tenant's records finds them all the same. A replay of the text says so, if
     // the configuration with these tenants is that of a head, and no record's line is too long.
-    ensures replays { AllReplaySame (open_config_of config.now tenants.now) (open_nodes_of config.now tenants.now nodes.now) }
-    ensures says_same { (lines rest : List (List ℕ)) → head_of lines ≡ Whole (open_config_of config.now tenants.now) rest →
-        HaveLines (open_config_of config.now tenants.now) (open_nodes_of config.now tenants.now nodes.now) →
-        SaysSame (open_config_of config.now tenants.now) (open_nodes_of config.now tenants.now nodes.now) (open_audit_of config.now tenants.now nodes.now) }
+    ensures replays { AllReplaySame (open_config_of config.now tenants.now)
+        (open_nodes_of config.now tenants.now nodes.now) }
+    ensures says_same { (lines rest : List (List ℕ)) →
+        head_of lines ≡ Whole (open_config_of config.now tenants.now) rest →
+        HaveLines (open_config_of config.now tenants.now)
+        (open_nodes_of config.now tenants.now nodes.now) →
+        SaysSame (open_config_of config.now tenants.now)
+        (open_nodes_of config.now tenants.now nodes.now)
+        (open_audit_of config.now tenants.now nodes.now) }
 
     // Memory ran out, or the writer failed in this call.
     ensures fault { IfRefusal result (λ fault. fault ≡ WriteFault) }
     ensures same { OnOk result (sink_failures sink.new ≡ sink_failures sink.old) }
-    ensures write_fault { OnRefusal result (HasRisen (sink_failures sink.old) (sink_failures sink.new)) }
+    ensures write_fault { OnRefusal result
+        (HasRisen (sink_failures sink.old) (sink_failures sink.new)) }
 {
     audits_fit(nodes);
     let by_slot = tenants.as_slice();

@@ -56,7 +56,8 @@ fn write_slot<O: Write>(
         ReplaysSame config (nodes_of config slot world.now.nodes) }
     ensures formed { OnOk result (IsSlotFormed world.now slot tenant) }
     ensures fault { IfRefusal result (λ fault. fault ≡ WriteFault) }
-    ensures write_fault { OnRefusal result (HasRisen (sink_failures sink.old) (sink_failures sink.new)) }
+    ensures write_fault { OnRefusal result
+        (HasRisen (sink_failures sink.old) (sink_failures sink.new)) }
 {
     let nodes = world.nodes();
     let tenants = [tenant];
@@ -81,7 +82,8 @@ fn write_own<O: Write>(
         ReplaysSame config (nodes_of config slot world.now.nodes)) }
     ensures refused { IfErr result (λ fault. IfRunRefused fault (LacksTenant world.now name.now)) }
     ensures unwritten { IfErr result (λ fault. IfRunRefused fault
-        (λ refusal. Keeps (O.contents (sink_writer sink.old)) (O.contents (sink_writer sink.new)))) }
+        (λ refusal. Keeps (O.contents (sink_writer sink.old))
+        (O.contents (sink_writer sink.new)))) }
     ensures read_fault { IsErrOf result RunFault.ReadFault → ⊥ }
     ensures write_fault { IsErrOf result RunFault.WriteFault →
         HasRisen (sink_failures sink.old) (sink_failures sink.new) }

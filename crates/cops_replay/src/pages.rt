@@ -15,9 +15,11 @@ const FULL: usize = 4096;
 
 /// Writes the buffered text.
 pub(crate) fn drain<W: Write>(out: &mut Vec<u8>, sink: &mut Sink<W>) -> Result<(), RequestError>
-    ensures written { OnOk result (Appends (W.contents (sink_writer sink.old)) (W.contents (sink_writer sink.new)) out.old.items) }
+    ensures written { OnOk result (Appends (W.contents (sink_writer sink.old))
+        (W.contents (sink_writer sink.new)) out.old.items) }
     ensures empty { OnOk result (out.new.items ≡ []) }
-    ensures front { AppendsFront (W.contents (sink_writer sink.old)) (W.contents (sink_writer sink.new)) out.old.items }
+    ensures front { AppendsFront (W.contents (sink_writer sink.old))
+        (W.contents (sink_writer sink.new)) out.old.items }
     ensures fault { IfErr result (λ error. error ≡ Refused WriteFault) }
     ensures ok { OnOk result (sink_failures sink.new ≡ sink_failures sink.old) }
     ensures err { OnErr result (HasRisen (sink_failures sink.old) (sink_failures sink.new)) }
@@ -34,7 +36,8 @@ pub(crate) fn drain_full<W: Write>(
     out: &mut Vec<u8>,
     sink: &mut Sink<W>,
 ) -> Result<(), RequestError>
-    ensures { PutsText [] (page out.old.items (W.contents (sink_writer sink.old)) (sink_failures sink.old)) result
+    ensures { PutsText []
+        (page out.old.items (W.contents (sink_writer sink.old)) (sink_failures sink.old)) result
         (page out.new.items (W.contents (sink_writer sink.new)) (sink_failures sink.new)) }
 {
     if out.len() < FULL {

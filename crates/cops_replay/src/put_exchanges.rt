@@ -86,7 +86,8 @@ fn put_wanted(bytes: &mut [u8], at: usize, wanted: &Wanted) -> usize
 /// Writes a get.
 pub(crate) fn put_get(bytes: &mut [u8], at: usize, key: &Key, wanted: &Wanted) -> usize
     requires { at + 165 ≤ length bytes.old }
-    ensures text { take result bytes.new ≡ take at bytes.old ++ spaced (call_words (Get key.now wanted.now)) }
+    ensures text { take result bytes.new
+        ≡ take at bytes.old ++ spaced (call_words (Get key.now wanted.now)) }
     ensures end { result ≤ at + 165 }
     ensures formed { IsTrue (is_call (Get key.now wanted.now)) }
 {
@@ -106,7 +107,8 @@ pub(crate) fn put_put(
     near: &OwnedNear,
 ) -> usize
     requires { at + stored_room value.now deps.now near.now + 165 ≤ length bytes.old }
-    ensures text { take result bytes.new ≡ take at bytes.old ++ spaced (call_words (Put key.now value.now deps.now near.now)) }
+    ensures text { take result bytes.new
+        ≡ take at bytes.old ++ spaced (call_words (Put key.now value.now deps.now near.now)) }
     ensures end { result ≤ at + stored_room value.now deps.now near.now + 165 }
     ensures formed { IsTrue (is_call (Put key.now value.now deps.now near.now)) }
 {
@@ -119,7 +121,8 @@ pub(crate) fn put_put(
 /// Writes a check.
 pub(crate) fn put_check(bytes: &mut [u8], at: usize, key: &Key, version: Version) -> usize
     requires { at + 165 ≤ length bytes.old }
-    ensures text { take result bytes.new ≡ take at bytes.old ++ spaced (call_words (DepCheck key.now version)) }
+    ensures text { take result bytes.new
+        ≡ take at bytes.old ++ spaced (call_words (DepCheck key.now version)) }
     ensures end { result ≤ at + 165 }
     ensures formed { IsTrue (is_call (DepCheck key.now version)) }
 {
@@ -158,9 +161,11 @@ pub(crate) fn put_found(
     deps: &OwnedDeps,
 ) -> usize
     requires { at + stored_room value.now deps.now [] + 165 ≤ length bytes.old }
-    ensures text { take result bytes.new ≡ take at bytes.old ++ spaced (reply_words (Found (record { version = version; value = value.now; deps = deps.now }))) }
+    ensures text { take result bytes.new ≡ take at bytes.old ++ spaced
+        (reply_words (Found (record { version = version; value = value.now; deps = deps.now }))) }
     ensures end { result ≤ at + stored_room value.now deps.now [] + 165 }
-    ensures formed { IsTrue (is_reply (Found (record { version = version; value = value.now; deps = deps.now }))) }
+    ensures formed { IsTrue
+        (is_reply (Found (record { version = version; value = value.now; deps = deps.now }))) }
 {
     let after_version = put_versioned(bytes, at, b"found", version);
     let of_value = put_byte(bytes, after_version, b' ');

@@ -50,7 +50,8 @@ pub(crate) fn room_of(packing: &Packing) -> usize
 /// Writes that an entry was found.
 fn put_found_entry(bytes: &mut [u8], at: usize, entry: &Entry) -> usize
     requires { at + entry_room entry.now + 165 ≤ length bytes.old }
-    ensures text { take result bytes.new ≡ take at bytes.old ++ spaced (reply_words (Found (found_in entry.now))) }
+    ensures text { take result bytes.new
+        ≡ take at bytes.old ++ spaced (reply_words (Found (found_in entry.now))) }
     ensures end { result ≤ at + entry_room entry.now + 165 }
     ensures formed { IsTrue (is_reply (Found (found_in entry.now))) }
 {
@@ -60,7 +61,8 @@ fn put_found_entry(bytes: &mut [u8], at: usize, entry: &Entry) -> usize
 /// Writes the call.
 fn put_row_call(bytes: &mut [u8], at: usize, packing: &Packing) -> usize
     requires { at + packing_room packing.now + 165 ≤ length bytes.old }
-    ensures text { take result bytes.new ≡ take at bytes.old ++ spaced (call_words (exchange_of packing.now).call) }
+    ensures text { take result bytes.new
+        ≡ take at bytes.old ++ spaced (call_words (exchange_of packing.now).call) }
     ensures end { result ≤ at + packing_room packing.now + 165 }
     ensures formed { IsTrue (is_call (exchange_of packing.now).call) }
 {
@@ -94,9 +96,11 @@ fn put_row_call(bytes: &mut [u8], at: usize, packing: &Packing) -> usize
 /// Writes the reply.
 fn put_row_reply(bytes: &mut [u8], at: usize, packing: &Packing) -> usize
     requires { at + packing_room packing.now + 165 ≤ length bytes.old }
-    ensures text { take result bytes.new ≡ take at bytes.old ++ spaced (reply_words (exchange_of packing.now).reply) }
+    ensures text { take result bytes.new
+        ≡ take at bytes.old ++ spaced (reply_words (exchange_of packing.now).reply) }
     ensures end { result ≤ at + packing_room packing.now + 165 }
-    ensures formed { IsTrue (has_form (exchange_of packing.now).reply) → IsTrue (is_reply (exchange_of packing.now).reply) }
+    ensures formed { IsTrue (has_form (exchange_of packing.now).reply) →
+        IsTrue (is_reply (exchange_of packing.now).reply) }
 {
     match packing {
         Packing::PutStored(entry) => put_versioned(bytes, at, b"stored", entry.version()),
@@ -127,9 +131,11 @@ pub(crate) fn put_line(
     packing: &Packing,
 ) -> usize
     requires { line_room packing.now ≤ length bytes.old }
-    ensures text { take result bytes.new ≡ ended (record_line name.now (packed_record node moment packing.now)) }
+    ensures text { take result bytes.new
+        ≡ ended (record_line name.now (packed_record node moment packing.now)) }
     ensures within { result ≤ length bytes.old }
-    ensures formed { IsTrue (has_form (exchange_of packing.now).reply) → IsTrue (is_record (packed_record node moment packing.now)) }
+    ensures formed { IsTrue (has_form (exchange_of packing.now).reply) →
+        IsTrue (is_record (packed_record node moment packing.now)) }
 {
     let of_call = put_front(bytes, 0, name, node, moment);
     let after_call = put_row_call(bytes, of_call, packing);

@@ -92,7 +92,8 @@ pub(crate) fn put_stored(
     near: &OwnedNear,
 ) -> usize
     requires { at + stored_room value.now deps.now near.now + 5 ≤ length bytes.old }
-    ensures text { take result bytes.new ≡ take at bytes.old ++ spaced (record_value value.now ∷ list_text deps.now ∷ list_text near.now ∷ []) }
+    ensures text { take result bytes.new ≡ take at bytes.old
+        ++ spaced (record_value value.now ∷ list_text deps.now ∷ list_text near.now ∷ []) }
     ensures end { result ≤ at + stored_room value.now deps.now near.now + 5 }
     ensures formed { IsTrue (is_bytes value.now && are_deps deps.now && are_near near.now) }
 {
@@ -123,7 +124,8 @@ pub(crate) fn put_entry(bytes: &mut [u8], at: usize, entry: &Entry) -> usize
 #[inline(always)]
 pub(crate) fn put_numbered(bytes: &mut [u8], at: usize, word: &[u8], number: u64) -> usize
     requires { at + length word.now + 21 ≤ length bytes.old }
-    ensures text { take result bytes.new ≡ take at bytes.old ++ spaced (word.now ∷ decimal number ∷ []) }
+    ensures text { take result bytes.new
+        ≡ take at bytes.old ++ spaced (word.now ∷ decimal number ∷ []) }
     ensures end { result ≤ at + length word.now + 21 }
     ensures formed { IsTrue (is_u64 number) }
 {
@@ -136,7 +138,8 @@ pub(crate) fn put_numbered(bytes: &mut [u8], at: usize, word: &[u8], number: u64
 #[inline(always)]
 pub(crate) fn put_versioned(bytes: &mut [u8], at: usize, word: &[u8], version: Version) -> usize
     requires { at + length word.now + 42 ≤ length bytes.old }
-    ensures text { take result bytes.new ≡ take at bytes.old ++ spaced (word.now ∷ version_text version ∷ []) }
+    ensures text { take result bytes.new
+        ≡ take at bytes.old ++ spaced (word.now ∷ version_text version ∷ []) }
     ensures end { result ≤ at + length word.now + 42 }
     ensures formed { IsTrue (is_version version) }
 {
@@ -149,7 +152,8 @@ pub(crate) fn put_versioned(bytes: &mut [u8], at: usize, word: &[u8], version: V
 #[inline(always)]
 pub(crate) fn put_entered(bytes: &mut [u8], at: usize, word: &[u8], entry: &Entry) -> usize
     requires { at + length word.now + entry_room entry.now + 155 ≤ length bytes.old }
-    ensures text { take result bytes.new ≡ take at bytes.old ++ spaced (word.now ∷ entry_words entry.now) }
+    ensures text { take result bytes.new
+        ≡ take at bytes.old ++ spaced (word.now ∷ entry_words entry.now) }
     ensures end { result ≤ at + length word.now + entry_room entry.now + 155 }
     ensures formed { IsTrue (is_entry entry.now) }
 {
@@ -161,7 +165,8 @@ pub(crate) fn put_entered(bytes: &mut [u8], at: usize, word: &[u8], entry: &Entr
 /// Writes an acknowledgement.
 pub(crate) fn put_ack(bytes: &mut [u8], at: usize, dc: u64, version: Version) -> usize
     requires { at + 165 ≤ length bytes.old }
-    ensures text { take result bytes.new ≡ take at bytes.old ++ spaced (call_words (Ack dc version)) }
+    ensures text { take result bytes.new
+        ≡ take at bytes.old ++ spaced (call_words (Ack dc version)) }
     ensures end { result ≤ at + 165 }
     ensures formed { IsTrue (is_call (Ack dc version)) }
 {

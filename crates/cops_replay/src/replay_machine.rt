@@ -66,7 +66,8 @@ fn replay_own(
     replay: &mut Replay,
     line: &[u8],
 ) -> Result<(), Stop<ReplayRefusal>>
-    ensures ok { OnOk result (ReplaysOwn (bytes_eq (first_word line.now) name.now) replay.old line.now replay.new) }
+    ensures ok { OnOk result
+        (ReplaysOwn (bytes_eq (first_word line.now) name.now) replay.old line.now replay.new) }
     ensures err { IfErr result (λ stop. IfRefused stop (RefusesOwn name.now replay.old line.now)) }
 {
     let (word, _rest) = split_word(line);
@@ -82,7 +83,8 @@ fn replay_own(
 
 /// Appends a word, a number and a newline.
 fn push_found(out: &mut Vec<u8>, word: &[u8], number: u64) -> Result<(), AllocError>
-    ensures { OnOk result (out.new.items ≡ out.old.items ++ (word.now ++ decimal number ++ newline ∷ [])) }
+    ensures { OnOk result
+        (out.new.items ≡ out.old.items ++ (word.now ++ decimal number ++ newline ∷ [])) }
 {
     out.extend_from_slice(word)?;
     push_number(out, number)?;

@@ -39,14 +39,17 @@ pub fn replay_text<R: Read, O: Write>(
     // All is read, and the result is written, or a prefix of it.
     ensures end { OnOk result (IsAtEnd (R.remaining (source_reader source.new))) }
     ensures ok { OnOk result (IfSome (R.remaining (source_reader source.old)) (λ bytes.
-        (text : List ℕ) × IsReplayOf tenant.now bytes text × Appends (O.contents (sink_writer sink.old)) (O.contents (sink_writer sink.new)) text)) }
+        (text : List ℕ) × IsReplayOf tenant.now bytes text
+        × Appends (O.contents (sink_writer sink.old)) (O.contents (sink_writer sink.new)) text)) }
     ensures err { OnErr result (IfSome (R.remaining (source_reader source.old)) (λ bytes.
-        ReplaysFront tenant.now bytes (O.contents (sink_writer sink.old)) (O.contents (sink_writer sink.new)))) }
+        ReplaysFront tenant.now bytes (O.contents (sink_writer sink.old))
+        (O.contents (sink_writer sink.new)))) }
 
     // A bad head is refused; so is a tenant that the head lacks, and a file of layout 1 in which a
     // clock of the tenant is too great. Nothing is written then.
     ensures refused { IfErr result (λ fault. IfRunRefused fault (λ refusal.
-        IfSome (R.remaining (source_reader source.old)) (λ bytes. RefusesReplayOf tenant.now bytes refusal))) }
+        IfSome (R.remaining (source_reader source.old))
+        (λ bytes. RefusesReplayOf tenant.now bytes refusal))) }
     ensures unwritten { IfErr result (λ fault. IfRunRefused fault (λ refusal.
         Keeps (O.contents (sink_writer sink.old)) (O.contents (sink_writer sink.new)))) }
 
@@ -54,7 +57,8 @@ pub fn replay_text<R: Read, O: Write>(
     ensures read_fault { IsErrOf result RunFault.ReadFault →
         HasRisen (source_failures source.old) (source_failures source.new)
         ⊎ HasRisenBy (source_reads source.old) (source_reads source.new) 4294967296 }
-    ensures write_fault { IsErrOf result RunFault.WriteFault → HasRisen (sink_failures sink.old) (sink_failures sink.new) }
+    ensures write_fault { IsErrOf result RunFault.WriteFault →
+        HasRisen (sink_failures sink.old) (sink_failures sink.new) }
 {
     let name = Bytes::new(alloc, tenant)?;
     let mut replay: AuditMachine<ReplaysOf, Replay> = new_audit(ReplaysOf { name });

@@ -88,7 +88,8 @@ fn agrees(
     line: &[u8],
 ) -> Result<bool, AllocError>
     ensures { IfOk result (λ agrees. (config : TenantConfig) (solos : List SoloNode) →
-        AreLoneNodes config nodes.old solos → IsLineReplayed config line.now solos agrees nodes.new) }
+        AreLoneNodes config nodes.old solos →
+        IsLineReplayed config line.now solos agrees nodes.new) }
 {
     let mut words = Words::of(line);
     let found = match next_asked(alloc, VersionSet::Layout2, &mut words) {
@@ -117,8 +118,11 @@ impl Replay {
     ) -> Result<Self, AllocError>
         requires sizes { IsTrue (are_sizes config.now) }
         requires slot { slot < length config.now.tenants }
-        requires clocks { (tenant : Tenant) → slice_get config.now.tenants slot ≡ Some tenant → IsTrue (are_clocks (with_tenant_alone config.now tenant)) }
-        ensures fresh { IfOk result (λ replay. (tenant : Tenant) → slice_get config.now.tenants slot ≡ Some tenant → IsBeforeRecords (tenant_config config.now tenant) replay) }
+        requires clocks { (tenant : Tenant) → slice_get config.now.tenants slot ≡ Some tenant →
+            IsTrue (are_clocks (with_tenant_alone config.now tenant)) }
+        ensures fresh { IfOk result
+            (λ replay. (tenant : Tenant) → slice_get config.now.tenants slot ≡ Some tenant →
+            IsBeforeRecords (tenant_config config.now tenant) replay) }
         ensures layout { IfOk result (λ replay. replay.layout ≡ layout) }
     {
         let nodes = LoneNodes::new(alloc, config, config.tenants.tenant(slot))?;
@@ -144,7 +148,8 @@ impl Replay {
     /// Executes the call of a line again. Returns `true` if the line is a record that agrees.
     fn agrees(&mut self, alloc: Global, line: &[u8]) -> Result<bool, AllocError>
         ensures replayed { IfOk result (λ agrees. (config : TenantConfig) (solos : List SoloNode) →
-            AreLoneNodes config self.old.nodes solos → IsLineReplayed config line.now solos agrees self.new.nodes) }
+            AreLoneNodes config self.old.nodes solos →
+            IsLineReplayed config line.now solos agrees self.new.nodes) }
         ensures layout { self.new.layout ≡ self.old.layout }
         ensures passed { self.new.passed ≡ self.old.passed }
         ensures found { self.new.found ≡ self.old.found }

@@ -23,8 +23,10 @@ fn push_placed(
     packing: &Packing,
 ) -> Result<(), AllocError>
     requires { line_room packing.now ≤ length place.old }
-    ensures line { OnOk result (out.new.items ≡ out.old.items ++ ended (record_line name.now (packed_record id moment packing.now))) }
-    ensures formed { IsTrue (has_form (exchange_of packing.now).reply) → IsTrue (is_record (packed_record id moment packing.now)) }
+    ensures line { OnOk result (out.new.items
+        ≡ out.old.items ++ ended (record_line name.now (packed_record id moment packing.now))) }
+    ensures formed { IsTrue (has_form (exchange_of packing.now).reply) →
+        IsTrue (is_record (packed_record id moment packing.now)) }
 {
     let end = put_line(place, name, id, moment, packing);
     out.extend_from_slice(&place[..end])
@@ -38,8 +40,10 @@ pub(crate) fn push_row(
     id: NodeId,
     row: &AuditRow,
 ) -> Result<(), AllocError>
-    ensures line { OnOk result (out.new.items ≡ out.old.items ++ ended (record_line name.now (record_of id row.now))) }
-    ensures formed { OnOk result (IsTrue (has_form row.now.reply) → IsTrue (is_record (record_of id row.now))) }
+    ensures line { OnOk result
+        (out.new.items ≡ out.old.items ++ ended (record_line name.now (record_of id row.now))) }
+    ensures formed { OnOk result
+        (IsTrue (has_form row.now.reply) → IsTrue (is_record (record_of id row.now))) }
 {
     let packing = row.packing();
     make_room(place, room_of(packing))?;

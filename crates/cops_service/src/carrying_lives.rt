@@ -25,9 +25,12 @@ fn carry_life<R: Wait, T: Moments>(
     waiting: &mut Waiting,
 ) -> bool
     ensures config { nodes.new.config.now ≡ nodes.old.config.now }
-    ensures desk { (nodes.new.nodes.desk.cluster.now ≡ nodes.old.nodes.desk.cluster.now) × (nodes.new.nodes.desk.seat.ghost_name ≡ nodes.old.nodes.desk.seat.ghost_name) }
-    ensures account { nodes.new.nodes.desk.seat.now.account ≡ nodes.old.nodes.desk.seat.now.account }
-    ensures carries { CarriesInLife nodes.old.config.now nodes.old.nodes.desk.cluster.now stream.now nodes.old.nodes.desk.seat.now nodes.new.nodes.desk.seat.now }
+    ensures desk { (nodes.new.nodes.desk.cluster.now ≡ nodes.old.nodes.desk.cluster.now)
+        × (nodes.new.nodes.desk.seat.ghost_name ≡ nodes.old.nodes.desk.seat.ghost_name) }
+    ensures account { nodes.new.nodes.desk.seat.now.account
+        ≡ nodes.old.nodes.desk.seat.now.account }
+    ensures carries { CarriesInLife nodes.old.config.now nodes.old.nodes.desk.cluster.now stream.now
+        nodes.old.nodes.desk.seat.now nodes.new.nodes.desk.seat.now }
 {
     let config = nodes.config;
     if !is_between(config, stream) {
@@ -49,9 +52,13 @@ fn carry_each<R: Wait, T: Moments>(
     waiting: &mut Waiting,
 ) -> bool
     ensures config { nodes.new.config.now ≡ nodes.old.config.now }
-    ensures desk { (nodes.new.nodes.desk.cluster.now ≡ nodes.old.nodes.desk.cluster.now) × (nodes.new.nodes.desk.seat.ghost_name ≡ nodes.old.nodes.desk.seat.ghost_name) }
-    ensures account { nodes.new.nodes.desk.seat.now.account ≡ nodes.old.nodes.desk.seat.now.account }
-    ensures carries { DoneForEach (CarriesInLife nodes.old.config.now nodes.old.nodes.desk.cluster.now) streams.now nodes.old.nodes.desk.seat.now nodes.new.nodes.desk.seat.now }
+    ensures desk { (nodes.new.nodes.desk.cluster.now ≡ nodes.old.nodes.desk.cluster.now)
+        × (nodes.new.nodes.desk.seat.ghost_name ≡ nodes.old.nodes.desk.seat.ghost_name) }
+    ensures account { nodes.new.nodes.desk.seat.now.account
+        ≡ nodes.old.nodes.desk.seat.now.account }
+    ensures carries { DoneForEach
+        (CarriesInLife nodes.old.config.now nodes.old.nodes.desk.cluster.now) streams.now
+        nodes.old.nodes.desk.seat.now nodes.new.nodes.desk.seat.now }
 {
     let mut carried = false;
     for stream in streams {
@@ -68,9 +75,12 @@ pub(crate) fn carry_lives<R: Wait + Clock, T: Moments>(
     waiting: &mut Waiting,
 )
     ensures config { nodes.new.config.now ≡ nodes.old.config.now }
-    ensures desk { (nodes.new.nodes.desk.cluster.now ≡ nodes.old.nodes.desk.cluster.now) × (nodes.new.nodes.desk.seat.ghost_name ≡ nodes.old.nodes.desk.seat.ghost_name) }
-    ensures account { nodes.new.nodes.desk.seat.now.account ≡ nodes.old.nodes.desk.seat.now.account }
-    ensures carries { CarriesLives nodes.old.config.now nodes.old.nodes.desk.cluster.now nodes.old.nodes.desk.seat.now nodes.new.nodes.desk.seat.now }
+    ensures desk { (nodes.new.nodes.desk.cluster.now ≡ nodes.old.nodes.desk.cluster.now)
+        × (nodes.new.nodes.desk.seat.ghost_name ≡ nodes.old.nodes.desk.seat.ghost_name) }
+    ensures account { nodes.new.nodes.desk.seat.now.account
+        ≡ nodes.old.nodes.desk.seat.now.account }
+    ensures carries { CarriesLives nodes.old.config.now nodes.old.nodes.desk.cluster.now
+        nodes.old.nodes.desk.seat.now nodes.new.nodes.desk.seat.now }
 {
     let rt = nodes.nodes.desk.rt;
     let notes = nodes.notes;
@@ -99,9 +109,12 @@ fn collect_life<R: Wait>(
     moment: u64,
 ) -> Collected
     ensures config { nodes.new.config.now ≡ nodes.old.config.now }
-    ensures desk { (nodes.new.nodes.desk.cluster.now ≡ nodes.old.nodes.desk.cluster.now) × (nodes.new.nodes.desk.seat.ghost_name ≡ nodes.old.nodes.desk.seat.ghost_name) }
-    ensures account { nodes.new.nodes.desk.seat.now.account ≡ nodes.old.nodes.desk.seat.now.account }
-    ensures collects { CollectsInLife nodes.old.config.now nodes.old.nodes.desk.cluster.now place.now nodes.old.nodes.desk.seat.now nodes.new.nodes.desk.seat.now }
+    ensures desk { (nodes.new.nodes.desk.cluster.now ≡ nodes.old.nodes.desk.cluster.now)
+        × (nodes.new.nodes.desk.seat.ghost_name ≡ nodes.old.nodes.desk.seat.ghost_name) }
+    ensures account { nodes.new.nodes.desk.seat.now.account
+        ≡ nodes.old.nodes.desk.seat.now.account }
+    ensures collects { CollectsInLife nodes.old.config.now nodes.old.nodes.desk.cluster.now
+        place.now nodes.old.nodes.desk.seat.now nodes.new.nodes.desk.seat.now }
 {
     if !is_node(nodes.config, place) {
         return Collected::Removed(0);
@@ -118,9 +131,13 @@ fn collect_each<R: Wait, T: Moments>(
     dues: &mut Dues,
 )
     ensures config { nodes.new.config.now ≡ nodes.old.config.now }
-    ensures desk { (nodes.new.nodes.desk.cluster.now ≡ nodes.old.nodes.desk.cluster.now) × (nodes.new.nodes.desk.seat.ghost_name ≡ nodes.old.nodes.desk.seat.ghost_name) }
-    ensures account { nodes.new.nodes.desk.seat.now.account ≡ nodes.old.nodes.desk.seat.now.account }
-    ensures collects { DoneForEach (CollectsInLife nodes.old.config.now nodes.old.nodes.desk.cluster.now) places.now nodes.old.nodes.desk.seat.now nodes.new.nodes.desk.seat.now }
+    ensures desk { (nodes.new.nodes.desk.cluster.now ≡ nodes.old.nodes.desk.cluster.now)
+        × (nodes.new.nodes.desk.seat.ghost_name ≡ nodes.old.nodes.desk.seat.ghost_name) }
+    ensures account { nodes.new.nodes.desk.seat.now.account
+        ≡ nodes.old.nodes.desk.seat.now.account }
+    ensures collects { DoneForEach
+        (CollectsInLife nodes.old.config.now nodes.old.nodes.desk.cluster.now) places.now
+        nodes.old.nodes.desk.seat.now nodes.new.nodes.desk.seat.now }
 {
     let rt = nodes.nodes.desk.rt;
     let notes = nodes.notes;
@@ -138,9 +155,12 @@ pub(crate) fn collect_lives<R: Wait + Clock, T: Moments>(
     work: &mut Collecting,
 )
     ensures config { nodes.new.config.now ≡ nodes.old.config.now }
-    ensures desk { (nodes.new.nodes.desk.cluster.now ≡ nodes.old.nodes.desk.cluster.now) × (nodes.new.nodes.desk.seat.ghost_name ≡ nodes.old.nodes.desk.seat.ghost_name) }
-    ensures account { nodes.new.nodes.desk.seat.now.account ≡ nodes.old.nodes.desk.seat.now.account }
-    ensures collects { CollectsLives nodes.old.config.now nodes.old.nodes.desk.cluster.now nodes.old.nodes.desk.seat.now nodes.new.nodes.desk.seat.now }
+    ensures desk { (nodes.new.nodes.desk.cluster.now ≡ nodes.old.nodes.desk.cluster.now)
+        × (nodes.new.nodes.desk.seat.ghost_name ≡ nodes.old.nodes.desk.seat.ghost_name) }
+    ensures account { nodes.new.nodes.desk.seat.now.account
+        ≡ nodes.old.nodes.desk.seat.now.account }
+    ensures collects { CollectsLives nodes.old.config.now nodes.old.nodes.desk.cluster.now
+        nodes.old.nodes.desk.seat.now nodes.new.nodes.desk.seat.now }
 {
     let rt = nodes.nodes.desk.rt;
     let notes = nodes.notes;

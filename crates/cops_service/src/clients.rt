@@ -45,11 +45,13 @@ pub(crate) fn serve_client<R: Read + Drop, O: Write + Drop, N: Nodes, M: Moments
 ) -> Conversed<R, O>
     requires shape { N.shape nodes.old ≡ shape_of config.now }
     requires sizes { IsTrue (are_sizes config.now) }
-    ensures conversed { IfOk result.ended (HasConversed (KeepsShape N.shape N.Answers) M.Gives config.now
+    ensures conversed { IfOk result.ended
+        (HasConversed (KeepsShape N.shape N.Answers) M.Gives config.now
         (R.remaining (source_reader source)) (R.remaining (source_reader result.source))
         (O.contents (sink_writer sink)) (O.contents (sink_writer result.sink))
         nodes.old nodes.new moments.old moments.new) }
-    ensures front { OnErr result.ended (HasConversedInPart (KeepsShape N.shape N.Answers) M.Gives config.now
+    ensures front { OnErr result.ended
+        (HasConversedInPart (KeepsShape N.shape N.Answers) M.Gives config.now
         (R.remaining (source_reader source))
         (O.contents (sink_writer sink)) (O.contents (sink_writer result.sink))
         nodes.old nodes.new moments.old moments.new) }
@@ -86,7 +88,8 @@ pub(crate) fn serve_line<C: Clock, N: Nodes, M: Moments>(
 ) -> Result<Ended, RequestError>
     requires shape { N.shape nodes.old ≡ shape_of config.now }
     requires sizes { IsTrue (are_sizes config.now) }
-    ensures converses { Converses (KeepsShape N.shape N.Answers) M.Gives config.now nodes.old nodes.new moments.old moments.new }
+    ensures converses { Converses (KeepsShape N.shape N.Answers) M.Gives config.now
+        nodes.old nodes.new moments.old moments.new }
     ensures shape { N.shape nodes.new ≡ N.shape nodes.old }
 {
     let source = Source::new(Incoming { line });
@@ -106,7 +109,8 @@ fn converse_in_life<R: Read, O: Write, N: Nodes, M: Moments>(
     requires first { connection_kept connection.old ≡ kept_of [] }
     requires shape { N.shape nodes.old ≡ shape_of config.now }
     requires sizes { IsTrue (are_sizes config.now) }
-    ensures converses { Converses (KeepsShape N.shape N.Answers) M.Gives config.now nodes.old nodes.new moments.old moments.new }
+    ensures converses { Converses (KeepsShape N.shape N.Answers) M.Gives config.now
+        nodes.old nodes.new moments.old moments.new }
     ensures served { IfOk result (ConversesOn (KeepsShape N.shape N.Answers) M.Gives config.now
         UnknownTenant
         (R.remaining (source_reader (connection_source connection.old)))
@@ -134,10 +138,12 @@ pub(crate) fn serve_in_life<R: Read + Drop, O: Write + Drop, N: Nodes, M: Moment
 ) -> Conversed<R, O>
     requires shape { N.shape nodes.old ≡ shape_of config.now }
     requires sizes { IsTrue (are_sizes config.now) }
-    ensures converses { Converses (KeepsShape N.shape N.Answers) M.Gives config.now nodes.old nodes.new moments.old moments.new }
+    ensures converses { Converses (KeepsShape N.shape N.Answers) M.Gives config.now
+        nodes.old nodes.new moments.old moments.new }
 
     // The client was served to the end, or served and then refused.
-    ensures served { IfOk result.ended (ConversesOn (KeepsShape N.shape N.Answers) M.Gives config.now
+    ensures served { IfOk result.ended
+        (ConversesOn (KeepsShape N.shape N.Answers) M.Gives config.now
         UnknownTenant
         (R.remaining (source_reader source)) (R.remaining (source_reader result.source))
         (O.contents (sink_writer sink)) (O.contents (sink_writer result.sink))
@@ -166,7 +172,8 @@ pub(crate) fn serve_watched<C: Wait + Clock, N: Nodes, M: Moments>(
 ) -> Result<Ended, RequestError>
     requires shape { N.shape nodes.old ≡ shape_of config.now }
     requires sizes { IsTrue (are_sizes config.now) }
-    ensures converses { Converses (KeepsShape N.shape N.Answers) M.Gives config.now nodes.old nodes.new moments.old moments.new }
+    ensures converses { Converses (KeepsShape N.shape N.Answers) M.Gives config.now
+        nodes.old nodes.new moments.old moments.new }
     ensures shape { N.shape nodes.new ≡ N.shape nodes.old }
 {
     let is_over = Cell::new(false);

@@ -167,7 +167,8 @@ impl Dues {
         ensures visited { let number = place_number self.old.sizes visit.now.place % 2 ^ 64 in
             IfSome (slice_get self.old.dues.items number) (λ due. IsSomeAnd
             (slice_get self.new.dues.items number)
-            (IsVisited visit.now.at_once now self.old.trans_time (due_in_life visit.now.place.life due))) }
+            (IsVisited visit.now.at_once now self.old.trans_time
+            (due_in_life visit.now.place.life due))) }
     {
         let number = visit.place.number(self.sizes) as usize;
         self.forget_earlier(&visit.place);
@@ -191,12 +192,14 @@ impl Dues {
     // Forgets the place if something is due there of another life.
     fn forget_earlier(&mut self, place: &TenantNode)
         ensures next { self.new.next ≡ self.old.next }
-        ensures settings { (self.new.sizes ≡ self.old.sizes) × (self.new.trans_time ≡ self.old.trans_time) }
+        ensures settings { (self.new.sizes ≡ self.old.sizes)
+            × (self.new.trans_time ≡ self.old.trans_time) }
         ensures forgotten { let number = place_number self.old.sizes place.now % 2 ^ 64 in
             IfSome (slice_get self.old.dues.items number) (λ due. self.new.dues.items
             ≡ slice_set self.old.dues.items number (due_in_life place.now.life due)) }
         ensures none { let number = place_number self.old.sizes place.now % 2 ^ 64 in
-            IfNone (slice_get self.old.dues.items number) (self.new.dues.items ≡ self.old.dues.items) }
+            IfNone (slice_get self.old.dues.items number)
+            (self.new.dues.items ≡ self.old.dues.items) }
     {
         let sizes = self.sizes;
         let number = place.number(sizes);
@@ -317,7 +320,8 @@ impl Collecting {
     /// Returns a state in which nothing is due.
     pub(crate) fn new(alloc: Global, config: &Config, notes: &Notes) -> Result<Self, AllocError>
         ensures empty { IfOk result (λ work. (work.visits.items ≡ []) × (work.places.items ≡ [])) }
-        ensures visits { IfOk result (λ work. vec_len notes.now.grown.are_listed ≤ vec_capacity work.visits) }
+        ensures visits { IfOk result
+            (λ work. vec_len notes.now.grown.are_listed ≤ vec_capacity work.visits) }
         ensures places { IfOk result (λ work. vec_capacity work.visits ≤ vec_capacity work.places) }
         ensures dues { IfOk result (λ work. vec_len work.dues.dues ≡ vec_capacity work.visits / 2) }
         ensures none { IfOk result (λ work. work.dues.next ≡ NEVER) }

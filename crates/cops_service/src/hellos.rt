@@ -46,7 +46,8 @@ fn token_in(messages: &[Message]) -> Option<[u8; 16]>
 /// Reads until a connection's first message is there, or as many bytes as a Hello has: a longer message doesn't greet. The token
 /// is that of the bytes.
 pub(crate) fn open_line<C: Clock>(alloc: Global, line: &Line<'_, C>) -> Result<Opened, RequestError>
-    ensures token { IfOk result (λ opened. opened.token ≡ first_token (split_of opened.bytes.items).messages) }
+    ensures token { IfOk result
+        (λ opened. opened.token ≡ first_token (split_of opened.bytes.items).messages) }
     ensures failed { IfErr result (λ error. (error ≡ OutOfMemory) ⊎ (error ≡ Refused ReadFault)) }
 {
     let mut incoming = Incoming { line };

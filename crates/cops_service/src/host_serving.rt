@@ -77,8 +77,10 @@ fn worker_seats(
     workers: u64,
 ) -> Result<Vec<ServiceSeat<HostedNode>>, AllocError>
     requires first { HasSplitOff 0 seated.old.seat }
-    ensures cluster { (seated.new.cluster ≡ seated.old.cluster) × (seated.new.config ≡ seated.old.config) }
-    ensures seats { IfOk result (λ seats. AllByRecursion (λ seat. IsNewSeatOf seated.old.cluster.now seat) seats.items) }
+    ensures cluster { (seated.new.cluster ≡ seated.old.cluster)
+        × (seated.new.config ≡ seated.old.config) }
+    ensures seats { IfOk result
+        (λ seats. AllByRecursion (λ seat. IsNewSeatOf seated.old.cluster.now seat) seats.items) }
     ensures count { IfOk result (λ seats. length seats.items ≡ workers) }
     ensures split { OnOk result (HasSplitOff workers seated.new.seat) }
 {
@@ -93,8 +95,10 @@ fn worker_seats(
 #[tactic(auto, using(crate::proofs::SeatsDone::one_more_split, crate::proofs::SeatsDone::is_the_first))]
 fn crew(alloc: Global, seated: &mut HostedSeat<'_>, workers: u64) -> Result<HostedCrew, AllocError>
     requires first { HasSplitOff 0 seated.old.seat }
-    ensures cluster { (seated.new.cluster ≡ seated.old.cluster) × (seated.new.config ≡ seated.old.config) }
-    ensures workers { IfOk result (λ crew. AllByRecursion (λ seat. IsNewSeatOf seated.old.cluster.now seat) crew.workers.items) }
+    ensures cluster { (seated.new.cluster ≡ seated.old.cluster)
+        × (seated.new.config ≡ seated.old.config) }
+    ensures workers { IfOk result (λ crew.
+        AllByRecursion (λ seat. IsNewSeatOf seated.old.cluster.now seat) crew.workers.items) }
     ensures count { IfOk result (λ crew. length crew.workers.items ≡ workers) }
     ensures host { IfOk result (λ crew. IsNewSeatOf seated.old.cluster.now crew.host) }
     ensures carrier { IfOk result (λ crew. IsNewSeatOf seated.old.cluster.now crew.carrier) }
@@ -122,10 +126,15 @@ fn end_seats<T: Moments + Copy>(
     moments: T,
     workers: u64,
 ) -> Result<Outcome, AllocError>
-    requires crew { IfSome left (λ l. IfSome l.finished (λ f. AreOfLifeCrew T.Gives moments seated.old.config.now seated.old.cluster.now workers (first_roster seated.old.config.now) l.roster f.seats.items)) }
+    requires crew { IfSome left (λ l. IfSome l.finished
+        (λ f. AreOfLifeCrew T.Gives moments seated.old.config.now seated.old.cluster.now workers
+        (first_roster seated.old.config.now) l.roster f.seats.items)) }
     requires first { HasSplitOff (workers + 1 + 1 + 1) seated.old.seat }
-    ensures cluster { (seated.new.cluster ≡ seated.old.cluster) × (seated.new.config ≡ seated.old.config) }
-    ensures seen { IfOk result (λ outcome. (outcome.end ≡ NoThread) ⊎ HasSeenLives T.Gives moments seated.old.config.now seated.old.cluster.now workers (first_roster seated.old.config.now) outcome.roster seated.new.seat) }
+    ensures cluster { (seated.new.cluster ≡ seated.old.cluster)
+        × (seated.new.config ≡ seated.old.config) }
+    ensures seen { IfOk result (λ outcome. (outcome.end ≡ NoThread)
+        ⊎ HasSeenLives T.Gives moments seated.old.config.now seated.old.cluster.now workers
+        (first_roster seated.old.config.now) outcome.roster seated.new.seat) }
 {
     let _ = (moments, workers);
     match left {
@@ -162,8 +171,11 @@ where
     T: Moments + Copy + Send,
     L: Reports + HostReports + Sync,
     requires first { HasSplitOff 0 seated.old.seat }
-    ensures cluster { (seated.new.cluster ≡ seated.old.cluster) × (seated.new.config ≡ seated.old.config) }
-    ensures seen { IfOk result (λ outcome. (outcome.end ≡ NoThread) ⊎ HasSeenLives T.Gives moments seated.old.config.now seated.old.cluster.now (max options.workers 1) (first_roster seated.old.config.now) outcome.roster seated.new.seat) }
+    ensures cluster { (seated.new.cluster ≡ seated.old.cluster)
+        × (seated.new.config ≡ seated.old.config) }
+    ensures seen { IfOk result (λ outcome. (outcome.end ≡ NoThread) ⊎ HasSeenLives T.Gives moments
+        seated.old.config.now seated.old.cluster.now (max options.workers 1)
+        (first_roster seated.old.config.now) outcome.roster seated.new.seat) }
 {
     let workers = worker_count(&options);
     let crew = crew(alloc, seated, workers)?;
@@ -219,7 +231,8 @@ where
     requires sizes { IsTrue (are_sizes config.now) }
     requires clocks { IsTrue (are_clocks config.now) }
     ensures left { IfOk result (λ served. AreLeftByLives config.now served.nodes.items) }
-    ensures served { IfOk result (λ served. served.end ≢ NoThread → AreServedInLives T.Gives moments config.now (max options.workers 1) served.nodes.items served.roster) }
+    ensures served { IfOk result (λ served. served.end ≢ NoThread → AreServedInLives T.Gives moments
+        config.now (max options.workers 1) served.nodes.items served.roster) }
     ensures refused { IfErr result (λ error. (error ≡ OutOfMemory) ⊎ (error ≡ Refused Torn)) }
 {
     let (cluster, seat) = Cluster::host(alloc, config)?;

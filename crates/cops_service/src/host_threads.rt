@@ -129,10 +129,14 @@ fn serve_resident<R: Wait + Clock, L, T: Moments>(
     moments: &mut T,
 ) -> Result<Ended, RequestError>
     ensures config { nodes.new.config.now ≡ nodes.old.config.now }
-    ensures desk { (nodes.new.nodes.desk.cluster.now ≡ nodes.old.nodes.desk.cluster.now) × (nodes.new.nodes.desk.seat.ghost_name ≡ nodes.old.nodes.desk.seat.ghost_name) }
-    ensures account { nodes.new.nodes.desk.seat.now.account ≡ nodes.old.nodes.desk.seat.now.account }
-    ensures serves { (nodes.new.nodes.desk.seat.now ≡ nodes.old.nodes.desk.seat.now) × (moments.new ≡ moments.old)
-        ⊎ ConversesInLife nodes.old.config.now nodes.old.nodes.desk.cluster.now T.Gives resident.life resident.tenant
+    ensures desk { (nodes.new.nodes.desk.cluster.now ≡ nodes.old.nodes.desk.cluster.now)
+        × (nodes.new.nodes.desk.seat.ghost_name ≡ nodes.old.nodes.desk.seat.ghost_name) }
+    ensures account { nodes.new.nodes.desk.seat.now.account
+        ≡ nodes.old.nodes.desk.seat.now.account }
+    ensures serves { (nodes.new.nodes.desk.seat.now ≡ nodes.old.nodes.desk.seat.now)
+        × (moments.new ≡ moments.old)
+        ⊎ ConversesInLife nodes.old.config.now nodes.old.nodes.desk.cluster.now T.Gives
+        resident.life resident.tenant
         (nodes.old.nodes.desk.seat.now, moments.old) (nodes.new.nodes.desk.seat.now, moments.new) }
 {
     let config = config_alone(together.alloc, nodes.config, resident.tenant)?;
@@ -151,8 +155,10 @@ fn refuse_stranger<R: Wait + Clock, L, T: Moments>(
     moments: &mut T,
 ) -> Result<Ended, RequestError>
     ensures config { nodes.new.config.now ≡ nodes.old.config.now }
-    ensures desk { (nodes.new.nodes.desk.cluster.now ≡ nodes.old.nodes.desk.cluster.now) × (nodes.new.nodes.desk.seat.ghost_name ≡ nodes.old.nodes.desk.seat.ghost_name) }
-    ensures same { (nodes.new.nodes.desk.seat.now ≡ nodes.old.nodes.desk.seat.now) × (moments.new ≡ moments.old) }
+    ensures desk { (nodes.new.nodes.desk.cluster.now ≡ nodes.old.nodes.desk.cluster.now)
+        × (nodes.new.nodes.desk.seat.ghost_name ≡ nodes.old.nodes.desk.seat.ghost_name) }
+    ensures same { (nodes.new.nodes.desk.seat.now ≡ nodes.old.nodes.desk.seat.now)
+        × (moments.new ≡ moments.old) }
 {
     let config = config_of_none(together.alloc, nodes.config);
     let stay = Stay::new(together.rt, together.residents, None);
@@ -173,9 +179,12 @@ fn serve_life<R: Wait + Clock, L, T: Moments>(
     moments: &mut T,
 ) -> Result<Ended, RequestError>
     ensures config { nodes.new.config.now ≡ nodes.old.config.now }
-    ensures desk { (nodes.new.nodes.desk.cluster.now ≡ nodes.old.nodes.desk.cluster.now) × (nodes.new.nodes.desk.seat.ghost_name ≡ nodes.old.nodes.desk.seat.ghost_name) }
-    ensures account { nodes.new.nodes.desk.seat.now.account ≡ nodes.old.nodes.desk.seat.now.account }
-    ensures serves { ServesInLife nodes.old.config.now nodes.old.nodes.desk.cluster.now T.Gives (nodes.old.nodes.desk.seat.now, moments.old) (nodes.new.nodes.desk.seat.now, moments.new) }
+    ensures desk { (nodes.new.nodes.desk.cluster.now ≡ nodes.old.nodes.desk.cluster.now)
+        × (nodes.new.nodes.desk.seat.ghost_name ≡ nodes.old.nodes.desk.seat.ghost_name) }
+    ensures account { nodes.new.nodes.desk.seat.now.account
+        ≡ nodes.old.nodes.desk.seat.now.account }
+    ensures serves { ServesInLife nodes.old.config.now nodes.old.nodes.desk.cluster.now T.Gives
+        (nodes.old.nodes.desk.seat.now, moments.old) (nodes.new.nodes.desk.seat.now, moments.new) }
 {
     let opened = open_line(together.alloc, line)?;
     let bytes = opened.bytes.as_slice();
@@ -193,9 +202,12 @@ fn serve_stream<R: Wait + Clock, L: Reports, T: Moments>(
     moments: &mut T,
 )
     ensures config { nodes.new.config.now ≡ nodes.old.config.now }
-    ensures desk { (nodes.new.nodes.desk.cluster.now ≡ nodes.old.nodes.desk.cluster.now) × (nodes.new.nodes.desk.seat.ghost_name ≡ nodes.old.nodes.desk.seat.ghost_name) }
-    ensures account { nodes.new.nodes.desk.seat.now.account ≡ nodes.old.nodes.desk.seat.now.account }
-    ensures serves { ServesInLife nodes.old.config.now nodes.old.nodes.desk.cluster.now T.Gives (nodes.old.nodes.desk.seat.now, moments.old) (nodes.new.nodes.desk.seat.now, moments.new) }
+    ensures desk { (nodes.new.nodes.desk.cluster.now ≡ nodes.old.nodes.desk.cluster.now)
+        × (nodes.new.nodes.desk.seat.ghost_name ≡ nodes.old.nodes.desk.seat.ghost_name) }
+    ensures account { nodes.new.nodes.desk.seat.now.account
+        ≡ nodes.old.nodes.desk.seat.now.account }
+    ensures serves { ServesInLife nodes.old.config.now nodes.old.nodes.desk.cluster.now T.Gives
+        (nodes.old.nodes.desk.seat.now, moments.old) (nodes.new.nodes.desk.seat.now, moments.new) }
 {
     let line = Line::new(
         together.rt,
@@ -225,9 +237,12 @@ fn serve_lives<R: Wait + Clock, L: Reports, T: Moments>(
     moments: &mut T,
 )
     ensures config { nodes.new.config.now ≡ nodes.old.config.now }
-    ensures desk { (nodes.new.nodes.desk.cluster.now ≡ nodes.old.nodes.desk.cluster.now) × (nodes.new.nodes.desk.seat.ghost_name ≡ nodes.old.nodes.desk.seat.ghost_name) }
-    ensures account { nodes.new.nodes.desk.seat.now.account ≡ nodes.old.nodes.desk.seat.now.account }
-    ensures serves { ServesLives nodes.old.config.now nodes.old.nodes.desk.cluster.now T.Gives moments.old nodes.old.nodes.desk.seat.now nodes.new.nodes.desk.seat.now }
+    ensures desk { (nodes.new.nodes.desk.cluster.now ≡ nodes.old.nodes.desk.cluster.now)
+        × (nodes.new.nodes.desk.seat.ghost_name ≡ nodes.old.nodes.desk.seat.ghost_name) }
+    ensures account { nodes.new.nodes.desk.seat.now.account
+        ≡ nodes.old.nodes.desk.seat.now.account }
+    ensures serves { ServesLives nodes.old.config.now nodes.old.nodes.desk.cluster.now T.Gives
+        moments.old nodes.old.nodes.desk.seat.now nodes.new.nodes.desk.seat.now }
 {
     for _ in together.rt.forever() {
         let Ok(accepted) = streams.recv(together.rt) else {
@@ -246,8 +261,10 @@ fn work<R: Wait + Clock, L: Reports, T: Moments + Copy>(
 ) -> ServiceSeat<HostedNode>
     requires open { IsHostedFor together.config.now together.cluster.now }
     requires seat { IsNewSeatOf together.cluster.now seat }
-    ensures done { HasSinceDone together.entry.cluster.now (ServesLives together.entry.config.now together.entry.cluster.now T.Gives moments) result }
-    ensures serves { ServesLives together.entry.config.now together.entry.cluster.now T.Gives moments seat result }
+    ensures done { HasSinceDone together.entry.cluster.now
+        (ServesLives together.entry.config.now together.entry.cluster.now T.Gives moments) result }
+    ensures serves { ServesLives together.entry.config.now together.entry.cluster.now T.Gives
+        moments seat result }
 {
     let mut nodes = LivingDesk {
         config: together.config,
@@ -275,8 +292,10 @@ fn carry<R: Wait + Clock, L, T: Moments + Copy>(
 ) -> ServiceSeat<HostedNode>
     requires open { IsHostedFor together.config.now together.cluster.now }
     requires seat { IsNewSeatOf together.cluster.now seat }
-    ensures done { HasSinceDone together.entry.cluster.now (CarriesLives together.entry.config.now together.entry.cluster.now) result }
-    ensures carries { CarriesLives together.entry.config.now together.entry.cluster.now seat result }
+    ensures done { HasSinceDone together.entry.cluster.now
+        (CarriesLives together.entry.config.now together.entry.cluster.now) result }
+    ensures carries { CarriesLives together.entry.config.now
+        together.entry.cluster.now seat result }
 {
     let mut nodes = LivingDesk {
         config: together.config,
@@ -301,8 +320,10 @@ fn collect<R: Wait + Clock, L, T: Moments + Copy>(
 ) -> ServiceSeat<HostedNode>
     requires open { IsHostedFor together.config.now together.cluster.now }
     requires seat { IsNewSeatOf together.cluster.now seat }
-    ensures done { HasSinceDone together.entry.cluster.now (CollectsLives together.entry.config.now together.entry.cluster.now) result }
-    ensures collects { CollectsLives together.entry.config.now together.entry.cluster.now seat result }
+    ensures done { HasSinceDone together.entry.cluster.now
+        (CollectsLives together.entry.config.now together.entry.cluster.now) result }
+    ensures collects { CollectsLives together.entry.config.now
+        together.entry.cluster.now seat result }
 {
     let mut nodes = LivingDesk {
         config: together.config,
@@ -326,10 +347,12 @@ fn follow_lines<R: Wait + Clock, L: HostReports>(
     host: &mut TenantHost<'_, R>,
     taken: &mut Vec<HostLine>,
 )
-    ensures desk { (host.new.desk.cluster.now ≡ host.old.desk.cluster.now) × (host.new.desk.seat.ghost_name ≡ host.old.desk.seat.ghost_name) }
+    ensures desk { (host.new.desk.cluster.now ≡ host.old.desk.cluster.now)
+        × (host.new.desk.seat.ghost_name ≡ host.old.desk.seat.ghost_name) }
     ensures roster { host.new.roster.ghost_name ≡ host.old.roster.ghost_name }
     ensures account { host.new.desk.seat.now.account ≡ host.old.desk.seat.now.account }
-    ensures follows { FollowsLines host.old.desk.cluster.now host.old.roster.now host.new.roster.now host.old.desk.seat.now host.new.desk.seat.now }
+    ensures follows { FollowsLines host.old.desk.cluster.now host.old.roster.now host.new.roster.now
+        host.old.desk.seat.now host.new.desk.seat.now }
 {
     for _ in together.rt.forever() {
         let goes_on = together.lines.take(together.rt, taken);
@@ -359,8 +382,10 @@ fn follow_host<R: Wait + Clock, L: HostReports, T: Copy>(
 ) -> Followed
     requires open { IsHostedFor together.config.now together.cluster.now }
     requires seat { IsNewSeatOf together.cluster.now seat }
-    ensures done { HasSinceDone together.entry.cluster.now (FollowsLines together.entry.cluster.now roster result.roster) result.seat }
-    ensures follows { FollowsLines together.entry.cluster.now roster result.roster seat result.seat }
+    ensures done { HasSinceDone together.entry.cluster.now
+        (FollowsLines together.entry.cluster.now roster result.roster) result.seat }
+    ensures follows { FollowsLines together.entry.cluster.now roster result.roster
+        seat result.seat }
 {
     let mut host = TenantHost {
         desk: HostedDesk::new(together.rt, together.cluster, &mut seat),
@@ -382,8 +407,11 @@ fn join_workers<R: Threads, T: Moments>(
     mut seats: Vec<ClusterSeat<HostedNode>>,
 ) -> Result<Vec<ClusterSeat<HostedNode>>, AllocError>
     requires empty { seats.items ≡ [] }
-    requires workers { AllByRecursion (λ worker. (worker.promise.config.value ≡ config.now) × (worker.promise.cluster.value ≡ cluster.now) × (worker.promise.moments.value ≡ moments.now)) workers.items }
-    ensures { IfOk result (λ seats. AreOfLifeWorkers T.Gives moments.now config.now cluster.now (length workers.items) seats.items) }
+    requires workers { AllByRecursion (λ worker.
+        (worker.promise.config.value ≡ config.now) × (worker.promise.cluster.value ≡ cluster.now)
+        × (worker.promise.moments.value ≡ moments.now)) workers.items }
+    ensures { IfOk result (λ seats. AreOfLifeWorkers T.Gives moments.now config.now cluster.now
+        (length workers.items) seats.items) }
 {
     for worker in workers {
         seats.push(worker.join(rt).into_seat())?;
@@ -403,7 +431,8 @@ where
     T: Moments + Copy + Send,
     requires open { IsHostedFor together.config.now together.cluster.now }
     requires seats { AllByRecursion (λ seat. IsNewSeatOf together.cluster.now seat) seats.items }
-    ensures { IfOk result (λ r. IfSome r (λ f. AreOfLifeWorkers T.Gives moments together.entry.config.now together.entry.cluster.now (length seats.items) f.seats.items)) }
+    ensures { IfOk result (λ r. IfSome r (λ f. AreOfLifeWorkers T.Gives moments
+        together.entry.config.now together.entry.cluster.now (length seats.items) f.seats.items)) }
 {
     let count = seats.len();
     let (to, from) = crossbeam_channel::bounded(together.alloc, count)?;
@@ -412,8 +441,12 @@ where
         thread::scope_env(),
         together.rt,
         move |scope| -> Result<Option<FinishedLives>, AllocError>
-            requires { IsSync R.row × IsSync L.row × IsSend T.row × IsHostedFor together.config.now together.cluster.now × AllByRecursion (λ seat. IsNewSeatOf together.cluster.now seat) seats.items × (length seats.items ≡ count) }
-            ensures { IfOk result (λ r. IfSome r (λ f. AreOfLifeWorkers T.Gives moments together.entry.config.now together.entry.cluster.now count f.seats.items)) }
+            requires { IsSync R.row × IsSync L.row × IsSend T.row
+                × IsHostedFor together.config.now together.cluster.now
+                × AllByRecursion (λ seat. IsNewSeatOf together.cluster.now seat) seats.items
+                × (length seats.items ≡ count) }
+            ensures { IfOk result (λ r. IfSome r (λ f. AreOfLifeWorkers T.Gives moments
+                together.entry.config.now together.entry.cluster.now count f.seats.items)) }
         {
             let mut workers: Vec<Worker<T>> = Vec::with_capacity(together.alloc, count)?;
             let ended = Vec::with_capacity(together.alloc, count.saturating_add(3))?;
@@ -421,8 +454,11 @@ where
                 let Ok(worker) = scope.spawn_with(
                     ServesLivesPromise::new(together.config, together.cluster, &moments),
                     move || -> ServiceSeat<HostedNode>
-                        requires { IsHostedFor together.config.now together.cluster.now × IsNewSeatOf together.cluster.now seat }
-                        ensures { HasSinceDone together.entry.cluster.now (ServesLives together.entry.config.now together.entry.cluster.now T.Gives moments) result }
+                        requires { IsHostedFor together.config.now together.cluster.now
+                            × IsNewSeatOf together.cluster.now seat }
+                        ensures { HasSinceDone together.entry.cluster.now
+                            (ServesLives together.entry.config.now together.entry.cluster.now
+                            T.Gives moments) result }
                     { work(together, seat, streams, moments) },
                 ) else {
                     return Ok(None);
@@ -466,21 +502,30 @@ where
     requires open { IsHostedFor together.config.now together.cluster.now }
     requires seats { AllByRecursion (λ seat. IsNewSeatOf together.cluster.now seat) seats.items }
     requires host { IsNewSeatOf together.cluster.now seat }
-    ensures { IfOk result (λ r. IfSome r (λ left. IfSome left.finished (λ f. AreOfHosts T.Gives moments together.entry.config.now together.entry.cluster.now (length seats.items) roster left.roster f.seats.items))) }
+    ensures { IfOk result (λ r. IfSome r
+        (λ left. IfSome left.finished (λ f. AreOfHosts T.Gives moments together.entry.config.now
+        together.entry.cluster.now (length seats.items) roster left.roster f.seats.items))) }
 {
     let taken = together.lines.room(together.alloc)?;
     thread::scope(
         thread::scope_env(),
         together.rt,
         move |scope| -> Result<Option<Left>, AllocError>
-            requires { IsSync R.row × IsSync L.row × IsSend T.row × IsHostedFor together.config.now together.cluster.now × AllByRecursion (λ seat. IsNewSeatOf together.cluster.now seat) seats.items × IsNewSeatOf together.cluster.now seat }
-            ensures { IfOk result (λ r. IfSome r (λ left. IfSome left.finished (λ f. AreOfHosts T.Gives moments together.entry.config.now together.entry.cluster.now (length seats.items) roster left.roster f.seats.items))) }
+            requires { IsSync R.row × IsSync L.row × IsSend T.row
+                × IsHostedFor together.config.now together.cluster.now
+                × AllByRecursion (λ seat. IsNewSeatOf together.cluster.now seat) seats.items
+                × IsNewSeatOf together.cluster.now seat }
+            ensures { IfOk result (λ r. IfSome r (λ left. IfSome left.finished (λ f.
+                AreOfHosts T.Gives moments together.entry.config.now together.entry.cluster.now
+                (length seats.items) roster left.roster f.seats.items))) }
         {
             let Ok(hosts) = scope.spawn_with(
                 FollowsPromise::new(together.cluster, &roster),
                 move || -> Followed
-                    requires { IsHostedFor together.config.now together.cluster.now × IsNewSeatOf together.cluster.now seat }
-                    ensures { HasSinceDone together.entry.cluster.now (FollowsLines together.entry.cluster.now roster result.roster) result.seat }
+                    requires { IsHostedFor together.config.now together.cluster.now
+                        × IsNewSeatOf together.cluster.now seat }
+                    ensures { HasSinceDone together.entry.cluster.now
+                        (FollowsLines together.entry.cluster.now roster result.roster) result.seat }
                 { follow_host(together, seat, roster, taken, moments) },
             ) else {
                 return Ok(None);
@@ -522,20 +567,30 @@ where
     requires seats { AllByRecursion (λ seat. IsNewSeatOf together.cluster.now seat) seats.items }
     requires host { IsNewSeatOf together.cluster.now host }
     requires carrier { IsNewSeatOf together.cluster.now carrier }
-    ensures { IfOk result (λ r. IfSome r (λ left. IfSome left.finished (λ f. AreOfLifeServers T.Gives moments together.entry.config.now together.entry.cluster.now (length seats.items) roster left.roster f.seats.items))) }
+    ensures { IfOk result (λ r. IfSome r (λ left.
+        IfSome left.finished (λ f. AreOfLifeServers T.Gives moments together.entry.config.now
+        together.entry.cluster.now (length seats.items) roster left.roster f.seats.items))) }
 {
     thread::scope(
         thread::scope_env(),
         together.rt,
         move |scope| -> Result<Option<Left>, AllocError>
-            requires { IsSync R.row × IsSync L.row × IsSend T.row × IsHostedFor together.config.now together.cluster.now × AllByRecursion (λ seat. IsNewSeatOf together.cluster.now seat) seats.items × IsNewSeatOf together.cluster.now host × IsNewSeatOf together.cluster.now carrier }
-            ensures { IfOk result (λ r. IfSome r (λ left. IfSome left.finished (λ f. AreOfLifeServers T.Gives moments together.entry.config.now together.entry.cluster.now (length seats.items) roster left.roster f.seats.items))) }
+            requires { IsSync R.row × IsSync L.row × IsSend T.row
+                × IsHostedFor together.config.now together.cluster.now
+                × AllByRecursion (λ seat. IsNewSeatOf together.cluster.now seat) seats.items
+                × IsNewSeatOf together.cluster.now host × IsNewSeatOf together.cluster.now carrier }
+            ensures { IfOk result
+                (λ r. IfSome r (λ left. IfSome left.finished (λ f. AreOfLifeServers T.Gives moments
+                together.entry.config.now together.entry.cluster.now
+                (length seats.items) roster left.roster f.seats.items))) }
         {
             let Ok(carries) = scope.spawn_with(
                 CarriesLivesPromise::new(together.config, together.cluster),
                 move || -> ServiceSeat<HostedNode>
-                    requires { IsHostedFor together.config.now together.cluster.now × IsNewSeatOf together.cluster.now carrier }
-                    ensures { HasSinceDone together.entry.cluster.now (CarriesLives together.entry.config.now together.entry.cluster.now) result }
+                    requires { IsHostedFor together.config.now together.cluster.now
+                        × IsNewSeatOf together.cluster.now carrier }
+                    ensures { HasSinceDone together.entry.cluster.now
+                        (CarriesLives together.entry.config.now together.entry.cluster.now) result }
                 { carry(together, carrier, streams, waiting, moments) },
             ) else {
                 return Ok(None);
@@ -575,11 +630,14 @@ where
     L: Reports + HostReports + Sync,
     T: Moments + Copy + Send,
     requires open { IsHostedFor together.config.now together.cluster.now }
-    requires workers { AllByRecursion (λ seat. IsNewSeatOf together.cluster.now seat) crew.workers.items }
+    requires workers { AllByRecursion (λ seat. IsNewSeatOf together.cluster.now seat)
+        crew.workers.items }
     requires host { IsNewSeatOf together.cluster.now crew.host }
     requires carrier { IsNewSeatOf together.cluster.now crew.carrier }
     requires collector { IsNewSeatOf together.cluster.now crew.collector }
-    ensures { IfOk result (λ r. IfSome r (λ left. IfSome left.finished (λ f. AreOfLifeCrew T.Gives moments together.entry.config.now together.entry.cluster.now (length crew.workers.items) roster left.roster f.seats.items))) }
+    ensures { IfOk result (λ r. IfSome r
+        (λ left. IfSome left.finished (λ f. AreOfLifeCrew T.Gives moments together.entry.config.now
+        together.entry.cluster.now (length crew.workers.items) roster left.roster f.seats.items))) }
 {
     let HostedCrew {
         workers,
@@ -596,14 +654,23 @@ where
         thread::scope_env(),
         together.rt,
         move |scope| -> Result<Option<Left>, AllocError>
-            requires { IsSync R.row × IsSync L.row × IsSend T.row × IsHostedFor together.config.now together.cluster.now × AllByRecursion (λ seat. IsNewSeatOf together.cluster.now seat) workers.items × IsNewSeatOf together.cluster.now host × IsNewSeatOf together.cluster.now carrier × IsNewSeatOf together.cluster.now collector }
-            ensures { IfOk result (λ r. IfSome r (λ left. IfSome left.finished (λ f. AreOfLifeCrew T.Gives moments together.entry.config.now together.entry.cluster.now (length workers.items) roster left.roster f.seats.items))) }
+            requires { IsSync R.row × IsSync L.row × IsSend T.row
+                × IsHostedFor together.config.now together.cluster.now
+                × AllByRecursion (λ seat. IsNewSeatOf together.cluster.now seat) workers.items
+                × IsNewSeatOf together.cluster.now host × IsNewSeatOf together.cluster.now carrier
+                × IsNewSeatOf together.cluster.now collector }
+            ensures { IfOk result (λ r. IfSome r (λ left. IfSome left.finished (λ f.
+                AreOfLifeCrew T.Gives moments together.entry.config.now together.entry.cluster.now
+                (length workers.items) roster left.roster f.seats.items))) }
         {
             let Ok(collects) = scope.spawn_with(
                 CollectsLivesPromise::new(together.config, together.cluster),
                 move || -> ServiceSeat<HostedNode>
-                    requires { IsHostedFor together.config.now together.cluster.now × IsNewSeatOf together.cluster.now collector }
-                    ensures { HasSinceDone together.entry.cluster.now (CollectsLives together.entry.config.now together.entry.cluster.now) result }
+                    requires { IsHostedFor together.config.now together.cluster.now
+                        × IsNewSeatOf together.cluster.now collector }
+                    ensures { HasSinceDone together.entry.cluster.now
+                        (CollectsLives together.entry.config.now together.entry.cluster.now)
+                        result }
                 { collect(together, collector, collecting, moments) },
             ) else {
                 return Ok(None);

@@ -42,7 +42,8 @@ impl<'a, R: Wait> HostedDesk<'a, R> {
     ) -> HostedDesk<'a, R>
         requires nodes { AreHosted cluster.now }
         requires seat { IsSeatOf cluster.now seat.old }
-        ensures same_seat { (result.seat.ghost_name ≡ seat.entry.ghost_name) × (result.seat.now ≡ seat.old) }
+        ensures same_seat { (result.seat.ghost_name ≡ seat.entry.ghost_name)
+            × (result.seat.now ≡ seat.old) }
         ensures cluster { result.cluster.now ≡ cluster.now }
     {
         HostedDesk { rt, cluster, seat }
@@ -62,7 +63,8 @@ impl<'a, R: Wait> HostedDesk<'a, R> {
         requires fits { FitsThere (hosted_shape self.old.cluster.now) id call }
         ensures cluster { self.new.cluster.now ≡ self.old.cluster.now }
         ensures seat { self.new.seat.ghost_name ≡ self.old.seat.ghost_name }
-        ensures told { IsSlotCall self.old.cluster.now self.old.seat.now id slot moment call (told_at_slot result) self.new.seat.now }
+        ensures told { IsSlotCall self.old.cluster.now self.old.seat.now id slot moment call
+            (told_at_slot result) self.new.seat.now }
     {
         reply_of(
             self.seat

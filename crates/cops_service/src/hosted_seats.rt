@@ -46,7 +46,8 @@ impl<'a> HostedSeat<'a> {
         ensures config { self.new.config ≡ self.old.config }
         ensures account { self.new.seat.account ≡ all_joined self.old.seat.account seats.items }
         ensures spent { self.new.seat.spent ≡ all_spent self.old.seat.spent seats.items }
-        ensures no_turn { turns_of self.new.seat.number self.new.seat.history ≡ turns_of self.old.seat.number self.old.seat.history }
+        ensures no_turn { turns_of self.new.seat.number self.new.seat.history
+            ≡ turns_of self.old.seat.number self.old.seat.history }
         ensures given { AllByRecursion (λ seat. HasAllOf self.new.seat.history seat) seats.items }
     {
         self.cluster.end_all(seats, &mut self.seat);

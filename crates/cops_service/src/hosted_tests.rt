@@ -55,7 +55,8 @@ fn put_x<N: Nodes>(alloc: Global, nodes: &mut N, dc: u64) -> Option<u64>
     requires { (dc < (N.shape nodes.old).data_centres) × ((N.shape nodes.old).shards ≡ 1) }
     ensures shape { N.shape nodes.new ≡ N.shape nodes.old }
     ensures once { (nodes.new ≡ nodes.old)
-        ⊎ ((id : Id) × (at moment : ℕ) × (call : Call) × (reply : Told) × N.Answers nodes.old id at moment call reply nodes.new) }
+        ⊎ ((id : Id) × (at moment : ℕ) × (call : Call) × (reply : Told)
+        × N.Answers nodes.old id at moment call reply nodes.new) }
 {
     let key = Key::new(b"x").ok()?;
     if key.shard(1) != 0 {
@@ -70,16 +71,20 @@ fn put_x<N: Nodes>(alloc: Global, nodes: &mut N, dc: u64) -> Option<u64>
 }
 
 pub(crate) fn put<R: Wait>(alloc: Global, nodes: &mut LifeDesk<'_, R>) -> Option<u64>
-    requires { (0 < (hosted_shape nodes.old.desk.cluster.now).data_centres) × ((hosted_shape nodes.old.desk.cluster.now).shards ≡ 1) }
-    ensures { (nodes.new.desk.cluster.now ≡ nodes.old.desk.cluster.now) × (nodes.new.desk.seat.ghost_name ≡ nodes.old.desk.seat.ghost_name) }
+    requires { (0 < (hosted_shape nodes.old.desk.cluster.now).data_centres)
+        × ((hosted_shape nodes.old.desk.cluster.now).shards ≡ 1) }
+    ensures { (nodes.new.desk.cluster.now ≡ nodes.old.desk.cluster.now)
+        × (nodes.new.desk.seat.ghost_name ≡ nodes.old.desk.seat.ghost_name) }
 {
     put_in(alloc, nodes, 0)
 }
 
 // Does the same in this data centre.
 pub(crate) fn put_in<R: Wait>(alloc: Global, nodes: &mut LifeDesk<'_, R>, dc: u64) -> Option<u64>
-    requires { (dc < (hosted_shape nodes.old.desk.cluster.now).data_centres) × ((hosted_shape nodes.old.desk.cluster.now).shards ≡ 1) }
-    ensures { (nodes.new.desk.cluster.now ≡ nodes.old.desk.cluster.now) × (nodes.new.desk.seat.ghost_name ≡ nodes.old.desk.seat.ghost_name) }
+    requires { (dc < (hosted_shape nodes.old.desk.cluster.now).data_centres)
+        × ((hosted_shape nodes.old.desk.cluster.now).shards ≡ 1) }
+    ensures { (nodes.new.desk.cluster.now ≡ nodes.old.desk.cluster.now)
+        × (nodes.new.desk.seat.ghost_name ≡ nodes.old.desk.seat.ghost_name) }
 {
     put_x(alloc, nodes, dc)
 }
@@ -100,9 +105,11 @@ pub(crate) fn admit<R: Wait>(
     slot: u64,
     tenant: Tenant,
 ) -> Option<Fault>
-    requires one { (0 < (hosted_shape nodes.old.desk.cluster.now).data_centres) × ((hosted_shape nodes.old.desk.cluster.now).shards ≡ 1) }
+    requires one { (0 < (hosted_shape nodes.old.desk.cluster.now).data_centres)
+        × ((hosted_shape nodes.old.desk.cluster.now).shards ≡ 1) }
     requires clock { tenant.first_clock ≤ last_clock }
-    ensures { (nodes.new.desk.cluster.now ≡ nodes.old.desk.cluster.now) × (nodes.new.desk.seat.ghost_name ≡ nodes.old.desk.seat.ghost_name) }
+    ensures { (nodes.new.desk.cluster.now ≡ nodes.old.desk.cluster.now)
+        × (nodes.new.desk.seat.ghost_name ≡ nodes.old.desk.seat.ghost_name) }
 {
     let life = nodes.life;
     refusal(
@@ -113,24 +120,30 @@ pub(crate) fn admit<R: Wait>(
 }
 
 fn close<R: Wait>(nodes: &mut LifeDesk<'_, R>) -> Option<Fault>
-    requires { (0 < (hosted_shape nodes.old.desk.cluster.now).data_centres) × ((hosted_shape nodes.old.desk.cluster.now).shards ≡ 1) }
-    ensures { (nodes.new.desk.cluster.now ≡ nodes.old.desk.cluster.now) × (nodes.new.desk.seat.ghost_name ≡ nodes.old.desk.seat.ghost_name) }
+    requires { (0 < (hosted_shape nodes.old.desk.cluster.now).data_centres)
+        × ((hosted_shape nodes.old.desk.cluster.now).shards ≡ 1) }
+    ensures { (nodes.new.desk.cluster.now ≡ nodes.old.desk.cluster.now)
+        × (nodes.new.desk.seat.ghost_name ≡ nodes.old.desk.seat.ghost_name) }
 {
     refusal(nodes.desk.ask(FIRST, 2, 0, SlotCall::Close))
 }
 
 // Asserts that no tenant is in this life: a put is refused.
 fn assert_unknown<R: Wait + Abort>(rt: &R, alloc: Global, nodes: &mut LifeDesk<'_, R>)
-    requires { (0 < (hosted_shape nodes.old.desk.cluster.now).data_centres) × ((hosted_shape nodes.old.desk.cluster.now).shards ≡ 1) }
-    ensures { (nodes.new.desk.cluster.now ≡ nodes.old.desk.cluster.now) × (nodes.new.desk.seat.ghost_name ≡ nodes.old.desk.seat.ghost_name) }
+    requires { (0 < (hosted_shape nodes.old.desk.cluster.now).data_centres)
+        × ((hosted_shape nodes.old.desk.cluster.now).shards ≡ 1) }
+    ensures { (nodes.new.desk.cluster.now ≡ nodes.old.desk.cluster.now)
+        × (nodes.new.desk.seat.ghost_name ≡ nodes.old.desk.seat.ghost_name) }
 {
     assert!(rt; put(alloc, nodes) == Some(0));
 }
 
 // Asserts that the slot is given to a tenant, whose first put has the first version.
 fn assert_comes<R: Wait + Abort>(rt: &R, alloc: Global, nodes: &mut LifeDesk<'_, R>)
-    requires { (0 < (hosted_shape nodes.old.desk.cluster.now).data_centres) × ((hosted_shape nodes.old.desk.cluster.now).shards ≡ 1) }
-    ensures { (nodes.new.desk.cluster.now ≡ nodes.old.desk.cluster.now) × (nodes.new.desk.seat.ghost_name ≡ nodes.old.desk.seat.ghost_name) }
+    requires { (0 < (hosted_shape nodes.old.desk.cluster.now).data_centres)
+        × ((hosted_shape nodes.old.desk.cluster.now).shards ≡ 1) }
+    ensures { (nodes.new.desk.cluster.now ≡ nodes.old.desk.cluster.now)
+        × (nodes.new.desk.seat.ghost_name ≡ nodes.old.desk.seat.ghost_name) }
 {
     assert!(rt; admit(nodes, 2, beta(rt)).is_none());
     assert!(rt; put(alloc, nodes) == Some(1));
@@ -138,16 +151,20 @@ fn assert_comes<R: Wait + Abort>(rt: &R, alloc: Global, nodes: &mut LifeDesk<'_,
 
 // Asserts that a slot is given to nobody.
 fn assert_taken<R: Wait + Abort>(rt: &R, nodes: &mut LifeDesk<'_, R>, slot: u64)
-    requires { (0 < (hosted_shape nodes.old.desk.cluster.now).data_centres) × ((hosted_shape nodes.old.desk.cluster.now).shards ≡ 1) }
-    ensures { (nodes.new.desk.cluster.now ≡ nodes.old.desk.cluster.now) × (nodes.new.desk.seat.ghost_name ≡ nodes.old.desk.seat.ghost_name) }
+    requires { (0 < (hosted_shape nodes.old.desk.cluster.now).data_centres)
+        × ((hosted_shape nodes.old.desk.cluster.now).shards ≡ 1) }
+    ensures { (nodes.new.desk.cluster.now ≡ nodes.old.desk.cluster.now)
+        × (nodes.new.desk.seat.ghost_name ≡ nodes.old.desk.seat.ghost_name) }
 {
     assert!(rt; admit(nodes, slot, beta(rt)) == Some(Fault::NoSlot));
 }
 
 // Asserts that the tenant goes, and can't go again.
 fn assert_goes<R: Wait + Abort>(rt: &R, nodes: &mut LifeDesk<'_, R>)
-    requires { (0 < (hosted_shape nodes.old.desk.cluster.now).data_centres) × ((hosted_shape nodes.old.desk.cluster.now).shards ≡ 1) }
-    ensures { (nodes.new.desk.cluster.now ≡ nodes.old.desk.cluster.now) × (nodes.new.desk.seat.ghost_name ≡ nodes.old.desk.seat.ghost_name) }
+    requires { (0 < (hosted_shape nodes.old.desk.cluster.now).data_centres)
+        × ((hosted_shape nodes.old.desk.cluster.now).shards ≡ 1) }
+    ensures { (nodes.new.desk.cluster.now ≡ nodes.old.desk.cluster.now)
+        × (nodes.new.desk.seat.ghost_name ≡ nodes.old.desk.seat.ghost_name) }
 {
     assert!(rt; close(nodes).is_none());
     assert!(rt; close(nodes) == Some(Fault::UnknownTenant));
@@ -155,8 +172,10 @@ fn assert_goes<R: Wait + Abort>(rt: &R, nodes: &mut LifeDesk<'_, R>)
 
 // Asserts the replies in a slot's life, before, in and after it.
 fn assert_life<R: Wait + Abort>(rt: &R, alloc: Global, nodes: &mut LifeDesk<'_, R>)
-    requires { (0 < (hosted_shape nodes.old.desk.cluster.now).data_centres) × ((hosted_shape nodes.old.desk.cluster.now).shards ≡ 1) }
-    ensures { (nodes.new.desk.cluster.now ≡ nodes.old.desk.cluster.now) × (nodes.new.desk.seat.ghost_name ≡ nodes.old.desk.seat.ghost_name) }
+    requires { (0 < (hosted_shape nodes.old.desk.cluster.now).data_centres)
+        × ((hosted_shape nodes.old.desk.cluster.now).shards ≡ 1) }
+    ensures { (nodes.new.desk.cluster.now ≡ nodes.old.desk.cluster.now)
+        × (nodes.new.desk.seat.ghost_name ≡ nodes.old.desk.seat.ghost_name) }
 {
     assert_unknown(rt, alloc, nodes);
     assert_comes(rt, alloc, nodes);
@@ -167,7 +186,8 @@ fn assert_life<R: Wait + Abort>(rt: &R, alloc: Global, nodes: &mut LifeDesk<'_, 
 
 // Asserts that the next life begins anew, and that the first one is over.
 fn assert_visit<R: Wait + Abort>(rt: &R, alloc: Global, nodes: &mut LifeDesk<'_, R>)
-    requires { (0 < (hosted_shape nodes.old.desk.cluster.now).data_centres) × ((hosted_shape nodes.old.desk.cluster.now).shards ≡ 1) }
+    requires { (0 < (hosted_shape nodes.old.desk.cluster.now).data_centres)
+        × ((hosted_shape nodes.old.desk.cluster.now).shards ≡ 1) }
 {
     assert_life(rt, alloc, nodes);
     nodes.life = 2;

@@ -23,7 +23,8 @@ impl<R: Wait> HostedDesk<'_, R> {
         requires fits { (home : Home) → FitsSlot home slot call }
         ensures cluster { self.new.cluster.now ≡ self.old.cluster.now }
         ensures seat { self.new.seat.ghost_name ≡ self.old.seat.ghost_name }
-        ensures told { IsHostCall self.old.cluster.now slot call number (told_at_slot result) self.old.seat.now self.new.seat.now }
+        ensures told { IsHostCall self.old.cluster.now slot call number
+            (told_at_slot result) self.old.seat.now self.new.seat.now }
     {
         reply_of(
             self.seat
@@ -43,8 +44,11 @@ impl<R: Wait> HostedDesk<'_, R> {
         requires clock { tenant.now.first_clock ≤ last_clock }
         ensures cluster { self.new.cluster.now ≡ self.old.cluster.now }
         ensures seat { self.new.seat.ghost_name ≡ self.old.seat.ghost_name }
-        ensures ok { OnOk result (IsHostCall self.old.cluster.now slot (Admit life tenant.now) number Admitted self.old.seat.now self.new.seat.now) }
-        ensures refused { IfErr result (λ error. (answer : Result Told NoMemory) × IsRefusal answer error × IsHostCall self.old.cluster.now slot (Admit life tenant.now) number (told_at_slot answer) self.old.seat.now self.new.seat.now) }
+        ensures ok { OnOk result (IsHostCall self.old.cluster.now slot
+            (Admit life tenant.now) number Admitted self.old.seat.now self.new.seat.now) }
+        ensures refused { IfErr result (λ error. (answer : Result Told NoMemory)
+            × IsRefusal answer error × IsHostCall self.old.cluster.now slot (Admit life tenant.now)
+            number (told_at_slot answer) self.old.seat.now self.new.seat.now) }
     {
         let tenant = *tenant;
         match self.tell(number, slot, SlotCall::Admit { life, tenant }) {
@@ -60,7 +64,8 @@ impl<R: Wait> HostedDesk<'_, R> {
         requires { count ≤ length (openings self.old.cluster.now) }
         ensures cluster { self.new.cluster.now ≡ self.old.cluster.now }
         ensures seat { self.new.seat.ghost_name ≡ self.old.seat.ghost_name }
-        ensures closed { IsClosedAtFirst self.old.cluster.now slot count self.old.seat.now self.new.seat.now }
+        ensures closed { IsClosedAtFirst self.old.cluster.now slot count self.old.seat.now
+            self.new.seat.now }
     {
         for number in 0..count {
             let _told = self.tell(number, slot, SlotCall::Close);
@@ -79,8 +84,10 @@ impl<R: Wait> HostedDesk<'_, R> {
         requires clock { tenant.now.first_clock ≤ last_clock }
         ensures cluster { self.new.cluster.now ≡ self.old.cluster.now }
         ensures seat { self.new.seat.ghost_name ≡ self.old.seat.ghost_name }
-        ensures ok { OnOk result (IsAdmittedAtAll self.old.cluster.now slot life tenant.now self.old.seat.now self.new.seat.now) }
-        ensures refused { IfErr result (λ error. IsTakenBack self.old.cluster.now slot life tenant.now error self.old.seat.now self.new.seat.now) }
+        ensures ok { OnOk result (IsAdmittedAtAll self.old.cluster.now slot life tenant.now
+            self.old.seat.now self.new.seat.now) }
+        ensures refused { IfErr result (λ error. IsTakenBack self.old.cluster.now slot life
+            tenant.now error self.old.seat.now self.new.seat.now) }
     {
         for number in 0..self.cluster.count() {
             if let Err(error) = self.admit_at(number, slot, life, tenant) {
@@ -95,7 +102,8 @@ impl<R: Wait> HostedDesk<'_, R> {
     pub fn close_at_all(&mut self, slot: u64)
         ensures cluster { self.new.cluster.now ≡ self.old.cluster.now }
         ensures seat { self.new.seat.ghost_name ≡ self.old.seat.ghost_name }
-        ensures closed { IsClosedAtAll self.old.cluster.now slot self.old.seat.now self.new.seat.now }
+        ensures closed { IsClosedAtAll self.old.cluster.now slot self.old.seat.now
+            self.new.seat.now }
     {
         self.close_at_first(self.cluster.count(), slot);
     }

@@ -20,8 +20,10 @@ pub(crate) fn assert_clocks<R: Wait + Abort>(
     nodes: &mut LifeDesk<'_, R>,
     clocks: (u64, u64),
 )
-    requires { (1 < (hosted_shape nodes.old.desk.cluster.now).data_centres) × ((hosted_shape nodes.old.desk.cluster.now).shards ≡ 1) }
-    ensures { (nodes.new.desk.cluster.now ≡ nodes.old.desk.cluster.now) × (nodes.new.desk.seat.ghost_name ≡ nodes.old.desk.seat.ghost_name) }
+    requires { (1 < (hosted_shape nodes.old.desk.cluster.now).data_centres)
+        × ((hosted_shape nodes.old.desk.cluster.now).shards ≡ 1) }
+    ensures { (nodes.new.desk.cluster.now ≡ nodes.old.desk.cluster.now)
+        × (nodes.new.desk.seat.ghost_name ≡ nodes.old.desk.seat.ghost_name) }
 {
     assert!(rt; put_in(alloc, nodes, 0) == Some(clocks.0));
     assert!(rt; put_in(alloc, nodes, 1) == Some(clocks.1));
@@ -32,7 +34,8 @@ pub(crate) fn admit<R: Wait + Abort>(
     rt: &R,
     nodes: &mut LifeDesk<'_, R>,
 ) -> Result<(), RequestError>
-    ensures { (nodes.new.desk.cluster.now ≡ nodes.old.desk.cluster.now) × (nodes.new.desk.seat.ghost_name ≡ nodes.old.desk.seat.ghost_name) }
+    ensures { (nodes.new.desk.cluster.now ≡ nodes.old.desk.cluster.now)
+        × (nodes.new.desk.seat.ghost_name ≡ nodes.old.desk.seat.ghost_name) }
 {
     let life = nodes.life;
     nodes.desk.admit_at_all(2, life, &beta(rt))
@@ -40,7 +43,8 @@ pub(crate) fn admit<R: Wait + Abort>(
 
 // Asserts that beta comes to all nodes, and leaves them.
 fn assert_comes_and_goes<R: Wait + Abort>(rt: &R, alloc: Global, nodes: &mut LifeDesk<'_, R>)
-    requires { (1 < (hosted_shape nodes.old.desk.cluster.now).data_centres) × ((hosted_shape nodes.old.desk.cluster.now).shards ≡ 1) }
+    requires { (1 < (hosted_shape nodes.old.desk.cluster.now).data_centres)
+        × ((hosted_shape nodes.old.desk.cluster.now).shards ≡ 1) }
 {
     assert!(rt; admit(rt, nodes) == Ok(()));
     assert_clocks(rt, alloc, nodes, (1, 1));
@@ -50,8 +54,10 @@ fn assert_comes_and_goes<R: Wait + Abort>(rt: &R, alloc: Global, nodes: &mut Lif
 
 // Gives the slot to beta at the second node alone.
 fn admit_at_second<R: Wait + Abort>(rt: &R, nodes: &mut LifeDesk<'_, R>)
-    requires { (1 < (hosted_shape nodes.old.desk.cluster.now).data_centres) × ((hosted_shape nodes.old.desk.cluster.now).shards ≡ 1) }
-    ensures { (nodes.new.desk.cluster.now ≡ nodes.old.desk.cluster.now) × (nodes.new.desk.seat.ghost_name ≡ nodes.old.desk.seat.ghost_name) }
+    requires { (1 < (hosted_shape nodes.old.desk.cluster.now).data_centres)
+        × ((hosted_shape nodes.old.desk.cluster.now).shards ≡ 1) }
+    ensures { (nodes.new.desk.cluster.now ≡ nodes.old.desk.cluster.now)
+        × (nodes.new.desk.seat.ghost_name ≡ nodes.old.desk.seat.ghost_name) }
 {
     let life = nodes.life;
     let second = NodeId { dc: 1, shard: 0 };
@@ -64,7 +70,8 @@ fn admit_at_second<R: Wait + Abort>(rt: &R, nodes: &mut LifeDesk<'_, R>)
 
 // Asserts that an admission that the second node refuses leaves nothing at the first one, and nobody else's life changes.
 fn assert_taken_back<R: Wait + Abort>(rt: &R, alloc: Global, nodes: &mut LifeDesk<'_, R>)
-    requires { (1 < (hosted_shape nodes.old.desk.cluster.now).data_centres) × ((hosted_shape nodes.old.desk.cluster.now).shards ≡ 1) }
+    requires { (1 < (hosted_shape nodes.old.desk.cluster.now).data_centres)
+        × ((hosted_shape nodes.old.desk.cluster.now).shards ≡ 1) }
 {
     admit_at_second(rt, nodes);
     nodes.life = 2;

@@ -30,7 +30,8 @@ impl<T> ServesLivesPromise<T> {
         cluster: &Cluster<HostedNode>,
         moments: &T,
     ) -> ServesLivesPromise<T>
-        ensures { (result.config.value ≡ config.now) × (result.cluster.value ≡ cluster.now) × (result.moments.value ≡ moments.now) }
+        ensures { (result.config.value ≡ config.now) × (result.cluster.value ≡ cluster.now)
+            × (result.moments.value ≡ moments.now) }
     {
         ServesLivesPromise {
             config: Snapshot::of(config),

@@ -29,7 +29,9 @@ impl<R: Wait> LivingDesk<'_, R> {
     pub(crate) fn turn_to(&mut self, slot: u64, life: u64)
         ensures config { self.new.config ≡ self.old.config }
         ensures cluster { self.new.nodes.desk.cluster.now ≡ self.old.nodes.desk.cluster.now }
-        ensures same_seat { (self.new.nodes.desk.seat.ghost_name ≡ self.old.nodes.desk.seat.ghost_name) × (self.new.nodes.desk.seat.now ≡ self.old.nodes.desk.seat.now) }
+        ensures same_seat { (self.new.nodes.desk.seat.ghost_name
+            ≡ self.old.nodes.desk.seat.ghost_name)
+            × (self.new.nodes.desk.seat.now ≡ self.old.nodes.desk.seat.now) }
         ensures slot { self.new.nodes.slot ≡ slot }
         ensures life { self.new.nodes.life ≡ life }
     {

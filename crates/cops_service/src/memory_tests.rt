@@ -85,8 +85,10 @@ fn closed_again<M: Machine + Drop>(
 
 /// Asserts that the third slot is given to beta, again if memory is refused.
 fn assert_comes<R: Wait + Abort>(rt: &R, nodes: &mut LifeDesk<'_, R>)
-    requires { (0 < (hosted_shape nodes.old.desk.cluster.now).data_centres) × ((hosted_shape nodes.old.desk.cluster.now).shards ≡ 1) }
-    ensures { (nodes.new.desk.cluster.now ≡ nodes.old.desk.cluster.now) × (nodes.new.desk.seat.ghost_name ≡ nodes.old.desk.seat.ghost_name) }
+    requires { (0 < (hosted_shape nodes.old.desk.cluster.now).data_centres)
+        × ((hosted_shape nodes.old.desk.cluster.now).shards ≡ 1) }
+    ensures { (nodes.new.desk.cluster.now ≡ nodes.old.desk.cluster.now)
+        × (nodes.new.desk.seat.ghost_name ≡ nodes.old.desk.seat.ghost_name) }
 {
     if let Some(fault) = admit(nodes, 2, beta(rt)) {
         assert!(rt; fault == Fault::OutOfMemory);
@@ -96,8 +98,10 @@ fn assert_comes<R: Wait + Abort>(rt: &R, nodes: &mut LifeDesk<'_, R>)
 
 /// Asserts that beta's first put has the first version. It is made again if memory is refused.
 fn assert_puts<R: Wait + Abort>(rt: &R, alloc: Global, nodes: &mut LifeDesk<'_, R>)
-    requires { (0 < (hosted_shape nodes.old.desk.cluster.now).data_centres) × ((hosted_shape nodes.old.desk.cluster.now).shards ≡ 1) }
-    ensures { (nodes.new.desk.cluster.now ≡ nodes.old.desk.cluster.now) × (nodes.new.desk.seat.ghost_name ≡ nodes.old.desk.seat.ghost_name) }
+    requires { (0 < (hosted_shape nodes.old.desk.cluster.now).data_centres)
+        × ((hosted_shape nodes.old.desk.cluster.now).shards ≡ 1) }
+    ensures { (nodes.new.desk.cluster.now ≡ nodes.old.desk.cluster.now)
+        × (nodes.new.desk.seat.ghost_name ≡ nodes.old.desk.seat.ghost_name) }
 {
     let clock = match put(alloc, nodes) {
         Some(clock) => clock,
@@ -115,7 +119,8 @@ fn visit<R: Wait + Abort>(
 ) -> ServiceSeat<HostedNode>
     requires nodes { AreHosted cluster.now }
     requires seat { IsSeatOf cluster.now seat }
-    requires shape { (0 < (hosted_shape cluster.now).data_centres) × ((hosted_shape cluster.now).shards ≡ 1) }
+    requires shape { (0 < (hosted_shape cluster.now).data_centres)
+        × ((hosted_shape cluster.now).shards ≡ 1) }
     ensures { IsSeatOf cluster.now result }
 {
     let desk = HostedDesk::new(rt, cluster, &mut seat);
@@ -153,8 +158,10 @@ fn refused_memory_at_a_running_node(rt: HostRuntime) {
 
 /// Asserts that beta comes to both nodes; if memory is refused at one, to none, and then to both.
 fn assert_comes_to_all<R: Wait + Abort>(rt: &R, alloc: Global, nodes: &mut LifeDesk<'_, R>)
-    requires { (1 < (hosted_shape nodes.old.desk.cluster.now).data_centres) × ((hosted_shape nodes.old.desk.cluster.now).shards ≡ 1) }
-    ensures { (nodes.new.desk.cluster.now ≡ nodes.old.desk.cluster.now) × (nodes.new.desk.seat.ghost_name ≡ nodes.old.desk.seat.ghost_name) }
+    requires { (1 < (hosted_shape nodes.old.desk.cluster.now).data_centres)
+        × ((hosted_shape nodes.old.desk.cluster.now).shards ≡ 1) }
+    ensures { (nodes.new.desk.cluster.now ≡ nodes.old.desk.cluster.now)
+        × (nodes.new.desk.seat.ghost_name ≡ nodes.old.desk.seat.ghost_name) }
 {
     if let Err(error) = hosting_tests::admit(rt, nodes) {
         assert!(rt; error == RequestError::OutOfMemory);
@@ -172,7 +179,8 @@ fn come_to_all<R: Wait + Abort>(
 ) -> ServiceSeat<HostedNode>
     requires nodes { AreHosted cluster.now }
     requires seat { IsSeatOf cluster.now seat }
-    requires shape { (1 < (hosted_shape cluster.now).data_centres) × ((hosted_shape cluster.now).shards ≡ 1) }
+    requires shape { (1 < (hosted_shape cluster.now).data_centres)
+        × ((hosted_shape cluster.now).shards ≡ 1) }
     ensures { IsSeatOf cluster.now result }
 {
     let desk = HostedDesk::new(rt, cluster, &mut seat);
@@ -299,7 +307,8 @@ fn turned<R: Wait + Abort>(
     cluster: &Cluster<Counter>,
     seat: &mut ServiceSeat<Counter>,
 ) -> u64
-    requires { IsSeatOf cluster.now seat.old × (cluster.now.shards ≡ 1) × (1 ≤ length cluster.now.gate.opening) }
+    requires { IsSeatOf cluster.now seat.old × (cluster.now.shards ≡ 1)
+        × (1 ≤ length cluster.now.gate.opening) }
     ensures { IsSeatOf cluster.now seat.new }
 {
     let id = NodeId { dc: 0, shard: 0 };

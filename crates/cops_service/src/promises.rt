@@ -23,7 +23,8 @@ impl<T: Moments> Promise<ServiceSeat<Node>> for ServesPromise<T> {
 
 impl<T> ServesPromise<T> {
     pub(crate) fn new(config: &Config, cluster: &Cluster<Node>, moments: &T) -> ServesPromise<T>
-        ensures { (result.config.value ≡ config.now) × (result.cluster.value ≡ cluster.now) × (result.moments.value ≡ moments.now) }
+        ensures { (result.config.value ≡ config.now) × (result.cluster.value ≡ cluster.now)
+            × (result.moments.value ≡ moments.now) }
     {
         ServesPromise {
             config: Snapshot::of(config),

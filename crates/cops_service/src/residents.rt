@@ -51,7 +51,8 @@ fn is_among(residents: &[Resident], life: Life) -> bool
 // Returns the first of these tenants with this token.
 fn with_token(residents: &[Resident], token: &[u8; 16]) -> Option<Resident>
     ensures found { IfSome result (λ resident. resident.tenant.token ≡ token.now) }
-    ensures one { IfSome result (λ resident. (k : ℕ) × (slice_get residents.now k ≡ Some resident)) }
+    ensures one { IfSome result
+        (λ resident. (k : ℕ) × (slice_get residents.now k ≡ Some resident)) }
 {
     for resident in residents {
         if resident.tenant.token.as_bytes() == token {

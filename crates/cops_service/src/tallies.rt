@@ -66,7 +66,8 @@ impl Tally {
     pub(crate) fn refused_requests(&self, is_torn: bool) -> u64
         ensures torn { IsTrue is_torn → result ≡ self.now.refusals - 1 }
         ensures greeting { self.now.frames ≡ 1 → self.now.refusals ≡ 1 → result ≡ 0 }
-        ensures clean { IsFalse is_torn → (self.now.frames ≢ 1) ⊎ (self.now.refusals ≢ 1) → result ≡ self.now.refusals }
+        ensures clean { IsFalse is_torn → (self.now.frames ≢ 1) ⊎ (self.now.refusals ≢ 1) →
+            result ≡ self.now.refusals }
     {
         let is_greeting_refused = self.frames == 1 && self.refusals == 1;
         let others = if is_torn || is_greeting_refused { 1 } else { 0 };

@@ -27,7 +27,8 @@ impl<R: Wait> TenantHost<'_, R> {
         ensures cluster { self.new.desk.cluster.now ≡ self.old.desk.cluster.now }
         ensures seat { self.new.desk.seat.ghost_name ≡ self.old.desk.seat.ghost_name }
         ensures roster { self.new.roster.ghost_name ≡ self.old.roster.ghost_name }
-        ensures begins { IfOk result (λ life. BeginsLife life tenant self.old.roster.now self.new.roster.now) }
+        ensures begins { IfOk result
+            (λ life. BeginsLife life tenant self.old.roster.now self.new.roster.now) }
         ensures at_all { IfOk result (λ life. IsAdmittedAtAll self.old.desk.cluster.now life.slot
             life.number tenant self.old.desk.seat.now self.new.desk.seat.now) }
         ensures refused { IfErr result (λ error. IsNotAdmitted self.old.desk.cluster.now

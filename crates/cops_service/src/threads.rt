@@ -89,7 +89,8 @@ fn serve_stream<R: Clock, L: Reports, N: Nodes, T: Moments>(
 )
     requires shape { N.shape nodes.old ≡ shape_of config.now }
     requires sizes { IsTrue (are_sizes config.now) }
-    ensures converses { Converses (KeepsShape N.shape N.Answers) T.Gives config.now nodes.old nodes.new moments.old moments.new }
+    ensures converses { Converses (KeepsShape N.shape N.Answers) T.Gives config.now
+        nodes.old nodes.new moments.old moments.new }
     ensures shape { N.shape nodes.new ≡ N.shape nodes.old }
 {
     let line = Line::new(
@@ -138,7 +139,8 @@ fn serve_each<R: Wait + Clock, L: Reports, N: Nodes, T: Moments>(
 )
     requires shape { N.shape nodes.old ≡ shape_of config.now }
     requires sizes { IsTrue (are_sizes config.now) }
-    ensures converse { (count : ℕ) × ConverseAll (KeepsShape N.shape N.Answers) T.Gives config.now count nodes.old nodes.new moments.old moments.new }
+    ensures converse { (count : ℕ) × ConverseAll (KeepsShape N.shape N.Answers) T.Gives config.now
+        count nodes.old nodes.new moments.old moments.new }
 {
     for _ in shared.rt.forever() {
         let Ok(accepted) = streams.recv(shared.rt) else {
@@ -156,9 +158,11 @@ fn serve_at_desk<R: Wait + Clock, L: Reports, T: Moments>(
     moments: &mut T,
 )
     requires open { IsOpenFor shared.config.now nodes.old.desk.cluster.now }
-    ensures desk { (nodes.new.desk.cluster.now ≡ nodes.old.desk.cluster.now) × (nodes.new.desk.seat.ghost_name ≡ nodes.old.desk.seat.ghost_name) }
+    ensures desk { (nodes.new.desk.cluster.now ≡ nodes.old.desk.cluster.now)
+        × (nodes.new.desk.seat.ghost_name ≡ nodes.old.desk.seat.ghost_name) }
     ensures account { nodes.new.desk.seat.now.account ≡ nodes.old.desk.seat.now.account }
-    ensures serves { ServesClients shared.entry.config.now nodes.old.desk.cluster.now T.Gives moments.old nodes.old.desk.seat.now nodes.new.desk.seat.now }
+    ensures serves { ServesClients shared.entry.config.now nodes.old.desk.cluster.now T.Gives
+        moments.old nodes.old.desk.seat.now nodes.new.desk.seat.now }
 {
     serve_each(shared, shared.config, nodes, streams, moments);
 }
@@ -172,9 +176,11 @@ fn carry_at_desk<R: Wait + Clock, L: Reports, T: Moments>(
     moments: &mut T,
 )
     requires open { IsOpenFor shared.config.now nodes.old.desk.cluster.now }
-    ensures desk { (nodes.new.desk.cluster.now ≡ nodes.old.desk.cluster.now) × (nodes.new.desk.seat.ghost_name ≡ nodes.old.desk.seat.ghost_name) }
+    ensures desk { (nodes.new.desk.cluster.now ≡ nodes.old.desk.cluster.now)
+        × (nodes.new.desk.seat.ghost_name ≡ nodes.old.desk.seat.ghost_name) }
     ensures account { nodes.new.desk.seat.now.account ≡ nodes.old.desk.seat.now.account }
-    ensures carries { CarriesStreams shared.entry.config.now nodes.old.desk.cluster.now nodes.old.desk.seat.now nodes.new.desk.seat.now }
+    ensures carries { CarriesStreams shared.entry.config.now nodes.old.desk.cluster.now
+        nodes.old.desk.seat.now nodes.new.desk.seat.now }
 {
     carry_noted(
         shared.rt,
@@ -195,9 +201,11 @@ fn collect_at_desk<R: Wait + Clock, L: Reports, T: Moments>(
     moments: &mut T,
 )
     requires open { IsOpenFor shared.config.now desk.old.cluster.now }
-    ensures desk { (desk.new.cluster.now ≡ desk.old.cluster.now) × (desk.new.seat.ghost_name ≡ desk.old.seat.ghost_name) }
+    ensures desk { (desk.new.cluster.now ≡ desk.old.cluster.now)
+        × (desk.new.seat.ghost_name ≡ desk.old.seat.ghost_name) }
     ensures account { desk.new.seat.now.account ≡ desk.old.seat.now.account }
-    ensures collects { CollectsPlaces shared.entry.config.now desk.old.cluster.now desk.old.seat.now desk.new.seat.now }
+    ensures collects { CollectsPlaces shared.entry.config.now desk.old.cluster.now desk.old.seat.now
+        desk.new.seat.now }
 {
     collect_noted(
         shared.rt,
@@ -218,8 +226,10 @@ fn work<R: Wait + Clock, L: Reports, T: Moments + Copy>(
 ) -> ServiceSeat<Node>
     requires open { IsOpenFor shared.config.now shared.cluster.now }
     requires seat { IsNewSeatOf shared.cluster.now seat }
-    ensures done { HasJustDone shared.entry.cluster.now (ServesClients shared.entry.config.now shared.entry.cluster.now T.Gives moments) result }
-    ensures serves { ServesClients shared.entry.config.now shared.entry.cluster.now T.Gives moments seat result }
+    ensures done { HasJustDone shared.entry.cluster.now
+        (ServesClients shared.entry.config.now shared.entry.cluster.now T.Gives moments) result }
+    ensures serves { ServesClients shared.entry.config.now shared.entry.cluster.now T.Gives
+        moments seat result }
 {
     let mut nodes = NotingDesk {
         desk: Desk::new(shared.rt, shared.cluster, &mut seat),
@@ -240,7 +250,8 @@ fn carry<R: Wait + Clock, L: Reports, T: Moments + Copy>(
 ) -> ServiceSeat<Node>
     requires open { IsOpenFor shared.config.now shared.cluster.now }
     requires seat { IsNewSeatOf shared.cluster.now seat }
-    ensures done { HasJustDone shared.entry.cluster.now (CarriesStreams shared.entry.config.now shared.entry.cluster.now) result }
+    ensures done { HasJustDone shared.entry.cluster.now
+        (CarriesStreams shared.entry.config.now shared.entry.cluster.now) result }
     ensures carries { CarriesStreams shared.entry.config.now shared.entry.cluster.now seat result }
 {
     let mut nodes = NotingDesk {
@@ -261,7 +272,8 @@ fn collect<R: Wait + Clock, L: Reports, T: Moments + Copy>(
 ) -> ServiceSeat<Node>
     requires open { IsOpenFor shared.config.now shared.cluster.now }
     requires seat { IsNewSeatOf shared.cluster.now seat }
-    ensures done { HasJustDone shared.entry.cluster.now (CollectsPlaces shared.entry.config.now shared.entry.cluster.now) result }
+    ensures done { HasJustDone shared.entry.cluster.now
+        (CollectsPlaces shared.entry.config.now shared.entry.cluster.now) result }
     ensures collects { CollectsPlaces shared.entry.config.now shared.entry.cluster.now seat result }
 {
     let mut desk = Desk::new(shared.rt, shared.cluster, &mut seat);
@@ -279,8 +291,11 @@ fn join_workers<R: Threads, T: Moments>(
     mut seats: Vec<ClusterSeat<Node>>,
 ) -> Result<Vec<ClusterSeat<Node>>, AllocError>
     requires empty { seats.items ≡ [] }
-    requires workers { AllByRecursion (λ worker. (worker.promise.config.value ≡ config.now) × (worker.promise.cluster.value ≡ cluster.now) × (worker.promise.moments.value ≡ moments.now)) workers.items }
-    ensures { IfOk result (λ seats. AreOfWorkers T.Gives moments.now config.now cluster.now (length workers.items) seats.items) }
+    requires workers { AllByRecursion (λ worker.
+        (worker.promise.config.value ≡ config.now) × (worker.promise.cluster.value ≡ cluster.now)
+        × (worker.promise.moments.value ≡ moments.now)) workers.items }
+    ensures { IfOk result (λ seats. AreOfWorkers T.Gives moments.now config.now cluster.now
+        (length workers.items) seats.items) }
 {
     for worker in workers {
         seats.push(worker.join(rt).into_seat())?;
@@ -300,7 +315,8 @@ where
     T: Moments + Copy + Send,
     requires open { IsOpenFor shared.config.now shared.cluster.now }
     requires seats { AllByRecursion (λ seat. IsNewSeatOf shared.cluster.now seat) seats.items }
-    ensures { IfOk result (λ r. IfSome r (λ f. AreOfWorkers T.Gives moments shared.entry.config.now shared.entry.cluster.now (length seats.items) f.seats.items)) }
+    ensures { IfOk result (λ r. IfSome r (λ f. AreOfWorkers T.Gives moments shared.entry.config.now
+        shared.entry.cluster.now (length seats.items) f.seats.items)) }
 {
     let count = seats.len();
     let (to, from) = crossbeam_channel::bounded(shared.alloc, count)?;
@@ -309,8 +325,12 @@ where
         thread::scope_env(),
         shared.rt,
         move |scope| -> Result<Option<Finished>, AllocError>
-            requires { IsSync R.row × IsSync L.row × IsSend T.row × IsOpenFor shared.config.now shared.cluster.now × AllByRecursion (λ seat. IsNewSeatOf shared.cluster.now seat) seats.items × (length seats.items ≡ count) }
-            ensures { IfOk result (λ r. IfSome r (λ f. AreOfWorkers T.Gives moments shared.entry.config.now shared.entry.cluster.now count f.seats.items)) }
+            requires { IsSync R.row × IsSync L.row × IsSend T.row
+                × IsOpenFor shared.config.now shared.cluster.now
+                × AllByRecursion (λ seat. IsNewSeatOf shared.cluster.now seat) seats.items
+                × (length seats.items ≡ count) }
+            ensures { IfOk result (λ r. IfSome r (λ f. AreOfWorkers T.Gives moments
+                shared.entry.config.now shared.entry.cluster.now count f.seats.items)) }
         {
             let mut workers: Vec<Worker<T>> = Vec::with_capacity(shared.alloc, count)?;
             let ended = Vec::with_capacity(shared.alloc, count.saturating_add(2))?;
@@ -318,8 +338,11 @@ where
                 let Ok(worker) = scope.spawn_with(
                     ServesPromise::new(shared.config, shared.cluster, &moments),
                     move || -> ServiceSeat<Node>
-                        requires { IsOpenFor shared.config.now shared.cluster.now × IsNewSeatOf shared.cluster.now seat }
-                        ensures { HasJustDone shared.entry.cluster.now (ServesClients shared.entry.config.now shared.entry.cluster.now T.Gives moments) result }
+                        requires { IsOpenFor shared.config.now shared.cluster.now
+                            × IsNewSeatOf shared.cluster.now seat }
+                        ensures { HasJustDone shared.entry.cluster.now
+                            (ServesClients shared.entry.config.now shared.entry.cluster.now T.Gives
+                            moments) result }
                     { work(shared, seat, streams, moments) },
                 ) else {
                     return Ok(None);
@@ -364,20 +387,28 @@ where
     requires open { IsOpenFor shared.config.now shared.cluster.now }
     requires seats { AllByRecursion (λ seat. IsNewSeatOf shared.cluster.now seat) seats.items }
     requires carrier { IsNewSeatOf shared.cluster.now carrier }
-    ensures { IfOk result (λ r. IfSome r (λ f. AreOfServers T.Gives moments shared.entry.config.now shared.entry.cluster.now (length seats.items) f.seats.items)) }
+    ensures { IfOk result (λ r. IfSome r (λ f. AreOfServers T.Gives moments shared.entry.config.now
+        shared.entry.cluster.now (length seats.items) f.seats.items)) }
 {
     thread::scope(
         thread::scope_env(),
         shared.rt,
         move |scope| -> Result<Option<Finished>, AllocError>
-            requires { IsSync R.row × IsSync L.row × IsSend T.row × IsOpenFor shared.config.now shared.cluster.now × AllByRecursion (λ seat. IsNewSeatOf shared.cluster.now seat) seats.items × IsNewSeatOf shared.cluster.now carrier }
-            ensures { IfOk result (λ r. IfSome r (λ f. AreOfServers T.Gives moments shared.entry.config.now shared.entry.cluster.now (length seats.items) f.seats.items)) }
+            requires { IsSync R.row × IsSync L.row × IsSend T.row
+                × IsOpenFor shared.config.now shared.cluster.now
+                × AllByRecursion (λ seat. IsNewSeatOf shared.cluster.now seat) seats.items
+                × IsNewSeatOf shared.cluster.now carrier }
+            ensures { IfOk result
+                (λ r. IfSome r (λ f. AreOfServers T.Gives moments shared.entry.config.now
+                shared.entry.cluster.now (length seats.items) f.seats.items)) }
         {
             let Ok(carries) = scope.spawn_with(
                 CarriesPromise::new(shared.config, shared.cluster),
                 move || -> ServiceSeat<Node>
-                    requires { IsOpenFor shared.config.now shared.cluster.now × IsNewSeatOf shared.cluster.now carrier }
-                    ensures { HasJustDone shared.entry.cluster.now (CarriesStreams shared.entry.config.now shared.entry.cluster.now) result }
+                    requires { IsOpenFor shared.config.now shared.cluster.now
+                        × IsNewSeatOf shared.cluster.now carrier }
+                    ensures { HasJustDone shared.entry.cluster.now
+                        (CarriesStreams shared.entry.config.now shared.entry.cluster.now) result }
                 { carry(shared, carrier, streams, waiting, moments) },
             ) else {
                 return Ok(None);
@@ -406,10 +437,12 @@ where
     L: Reports + Sync,
     T: Moments + Copy + Send,
     requires open { IsOpenFor shared.config.now shared.cluster.now }
-    requires workers { AllByRecursion (λ seat. IsNewSeatOf shared.cluster.now seat) crew.workers.items }
+    requires workers { AllByRecursion (λ seat. IsNewSeatOf shared.cluster.now seat)
+        crew.workers.items }
     requires carrier { IsNewSeatOf shared.cluster.now crew.carrier }
     requires collector { IsNewSeatOf shared.cluster.now crew.collector }
-    ensures { IfOk result (λ r. IfSome r (λ f. AreOfCrew T.Gives moments shared.entry.config.now shared.entry.cluster.now (length crew.workers.items) f.seats.items)) }
+    ensures { IfOk result (λ r. IfSome r (λ f. AreOfCrew T.Gives moments shared.entry.config.now
+        shared.entry.cluster.now (length crew.workers.items) f.seats.items)) }
 {
     let Crew {
         workers,
@@ -425,14 +458,22 @@ where
         thread::scope_env(),
         shared.rt,
         move |scope| -> Result<Option<Finished>, AllocError>
-            requires { IsSync R.row × IsSync L.row × IsSend T.row × IsOpenFor shared.config.now shared.cluster.now × AllByRecursion (λ seat. IsNewSeatOf shared.cluster.now seat) workers.items × IsNewSeatOf shared.cluster.now carrier × IsNewSeatOf shared.cluster.now collector }
-            ensures { IfOk result (λ r. IfSome r (λ f. AreOfCrew T.Gives moments shared.entry.config.now shared.entry.cluster.now (length workers.items) f.seats.items)) }
+            requires { IsSync R.row × IsSync L.row × IsSend T.row
+                × IsOpenFor shared.config.now shared.cluster.now
+                × AllByRecursion (λ seat. IsNewSeatOf shared.cluster.now seat) workers.items
+                × IsNewSeatOf shared.cluster.now carrier
+                × IsNewSeatOf shared.cluster.now collector }
+            ensures { IfOk result
+                (λ r. IfSome r (λ f. AreOfCrew T.Gives moments shared.entry.config.now
+                shared.entry.cluster.now (length workers.items) f.seats.items)) }
         {
             let Ok(collects) = scope.spawn_with(
                 CollectsPromise::new(shared.config, shared.cluster),
                 move || -> ServiceSeat<Node>
-                    requires { IsOpenFor shared.config.now shared.cluster.now × IsNewSeatOf shared.cluster.now collector }
-                    ensures { HasJustDone shared.entry.cluster.now (CollectsPlaces shared.entry.config.now shared.entry.cluster.now) result }
+                    requires { IsOpenFor shared.config.now shared.cluster.now
+                        × IsNewSeatOf shared.cluster.now collector }
+                    ensures { HasJustDone shared.entry.cluster.now
+                        (CollectsPlaces shared.entry.config.now shared.entry.cluster.now) result }
                 { collect(shared, collector, collecting, moments) },
             ) else {
                 return Ok(None);

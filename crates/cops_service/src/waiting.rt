@@ -89,7 +89,8 @@ impl Waiting {
             IfSome (slice_get self.old.pauses.items number) (λ pause. self.new.pauses.items
             ≡ slice_set self.old.pauses.items number (pause_in_life stream.now.from.life pause)) }
         ensures none { let number = stream_number self.old.sizes stream.now % 2 ^ 64 in
-            IfNone (slice_get self.old.pauses.items number) (self.new.pauses.items ≡ self.old.pauses.items) }
+            IfNone (slice_get self.old.pauses.items number)
+            (self.new.pauses.items ≡ self.old.pauses.items) }
     {
         let sizes = self.sizes;
         let number = stream.number(sizes);
@@ -116,9 +117,11 @@ impl Waiting {
         ensures next { (self.new.next ≡ self.old.next) × (self.new.sizes ≡ self.old.sizes) }
         ensures forgotten { let number = stream_number self.old.sizes stream.now % 2 ^ 64 in
             IfSome (slice_get self.old.pauses.items number) (λ pause. self.new.pauses.items
-            ≡ slice_set self.old.pauses.items number (record pause { is_kept = false; length = 0 })) }
+            ≡ slice_set self.old.pauses.items number
+            (record pause { is_kept = false; length = 0 })) }
         ensures none { let number = stream_number self.old.sizes stream.now % 2 ^ 64 in
-            IfNone (slice_get self.old.pauses.items number) (self.new.pauses.items ≡ self.old.pauses.items) }
+            IfNone (slice_get self.old.pauses.items number)
+            (self.new.pauses.items ≡ self.old.pauses.items) }
     {
         let number = stream.number(self.sizes);
         let Some(pause) = self.pauses.get_mut(number as usize) else {

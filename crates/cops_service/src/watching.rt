@@ -121,11 +121,15 @@ impl<I: Read, L: Lasting> Watched<'_, I, L> {
         requires none { self.old.kept.items ≡ [] }
         ensures bound { ReadsAtMost result buf.new }
         ensures bytes { ReadConsumes
-            (prepend_known (drop self.old.given self.old.kept.items) (I.remaining self.old.incoming))
-            (prepend_known (drop self.new.given self.new.kept.items) (I.remaining self.new.incoming))
+            (prepend_known (drop self.old.given self.old.kept.items)
+            (I.remaining self.old.incoming))
+            (prepend_known (drop self.new.given self.new.kept.items)
+            (I.remaining self.new.incoming))
             result buf.new }
-        ensures open { IfOk result (λ count. (count ≡ 0) ⊎ L.Says self.old.life true self.new.life) }
-        ensures over { (self.new.kept.items ≡ []) ⊎ (IsErr result × L.Says self.old.life false self.new.life) }
+        ensures open { IfOk result
+            (λ count. (count ≡ 0) ⊎ L.Says self.old.life true self.new.life) }
+        ensures over { (self.new.kept.items ≡ [])
+            ⊎ (IsErr result × L.Says self.old.life false self.new.life) }
     {
         let count = read_piece(&mut self.incoming, buf)?;
         if count == 0 || self.life.goes_on() {
@@ -144,8 +148,10 @@ impl<I: Read, L: Lasting> Watched<'_, I, L> {
     fn give(&mut self, buf: &mut [u8]) -> io::Result<usize>
         ensures bound { ReadsAtMost result buf.new }
         ensures bytes { ReadConsumes
-            (prepend_known (drop self.old.given self.old.kept.items) (I.remaining self.old.incoming))
-            (prepend_known (drop self.new.given self.new.kept.items) (I.remaining self.new.incoming))
+            (prepend_known (drop self.old.given self.old.kept.items)
+            (I.remaining self.old.incoming))
+            (prepend_known (drop self.new.given self.new.kept.items)
+            (I.remaining self.new.incoming))
             result buf.new }
     {
         let mut rest = &self.kept.as_slice()[self.given..];
@@ -164,8 +170,10 @@ impl<I: Read, L: Lasting> Read for Watched<'_, I, L> {
     fn read(&mut self, buf: &mut [u8]) -> io::Result<usize>
         ensures bound { ReadsAtMost result buf.new }
         ensures bytes { ReadConsumes
-            (prepend_known (drop self.old.given self.old.kept.items) (I.remaining self.old.incoming))
-            (prepend_known (drop self.new.given self.new.kept.items) (I.remaining self.new.incoming))
+            (prepend_known (drop self.old.given self.old.kept.items)
+            (I.remaining self.old.incoming))
+            (prepend_known (drop self.new.given self.new.kept.items)
+            (I.remaining self.new.incoming))
             result buf.new }
 
         // Before the end of the life is seen, bytes are given only if it goes on, and kept only if it doesn't.

@@ -91,10 +91,13 @@ impl ActorTable {
     /// Lends the actor at a place.
     pub(crate) fn actor_mut(&mut self, place: usize, id: &ActorId) -> &mut Actor
         requires { Some place ≡ actor_place id.now self.old }
-        ensures* lent { sem 𝓛 (Lends the_row actor_row self.entry result (λ actor. record self.old { actors = set_value_at self.old.actors place actor })) }
+        ensures* lent { sem 𝓛 (Lends the_row actor_row self.entry result
+            (λ actor. record self.old { actors = set_value_at self.old.actors place actor })) }
         ensures before { actor_at self.old id.now ≡ Some result.now }
-        ensures back { (actor : Kept) → PutsBack self.old id.now actor (record self.old { actors = set_value_at self.old.actors place actor }) }
-        ensures place { (actor : Kept) → Some place ≡ actor_place id.now (record self.old { actors = set_value_at self.old.actors place actor }) }
+        ensures back { (actor : Kept) → PutsBack self.old id.now actor
+            (record self.old { actors = set_value_at self.old.actors place actor }) }
+        ensures place { (actor : Kept) → Some place ≡ actor_place id.now
+            (record self.old { actors = set_value_at self.old.actors place actor }) }
     {
         let row = &mut self.rows[place];
         &mut row.actor
@@ -110,9 +113,12 @@ impl ActorTable {
     ) -> Result<bool, AllocError>
         requires slot { id.slot < self.old.slots }
         ensures free { IfOk result (λ added. added ≡ true → actor_at self.old id ≡ None) }
-        ensures ok { IfOk result (λ added. added ≡ true → Places self.old id (Some actor) self.new) }
-        ensures count { IfOk result (λ added. added ≡ true → count_at self.new id.slot ≡ count_at self.old id.slot + 1) }
-        ensures taken { IfOk result (λ added. added ≡ false → is_some (actor_at self.old id) ≡ true) }
+        ensures ok { IfOk result
+            (λ added. added ≡ true → Places self.old id (Some actor) self.new) }
+        ensures count { IfOk result
+            (λ added. added ≡ true → count_at self.new id.slot ≡ count_at self.old id.slot + 1) }
+        ensures taken { IfOk result
+            (λ added. added ≡ false → is_some (actor_at self.old id) ≡ true) }
         ensures same { IfOk result (λ added. added ≡ false → self.new ≡ self.old) }
         ensures err { OnErr result (self.new ≡ self.old) }
         ensures lacks { OnErr result (actor_at self.old id ≡ None) }
@@ -124,7 +130,8 @@ impl ActorTable {
     /// Returns whether the actor at a place is a carrier that has ended.
     pub(crate) fn has_ended(&self, place: usize, id: &ActorId) -> bool
         requires { Some place ≡ actor_place id.now self.now }
-        ensures { (actor : Kept) → actor_at self.now id.now ≡ Some actor → result ≡ actor_ended actor }
+        ensures { (actor : Kept) → actor_at self.now id.now ≡ Some actor →
+            result ≡ actor_ended actor }
     {
         let row = &self.rows[place];
         row.actor.has_ended()

@@ -107,9 +107,12 @@ pub enum Deed {
 }
 
 fn create(session: &mut Session) -> Result<Reply, AllocError>
-    ensures own { (config : TenantConfig) (solo : SoloSession) → SessionStandsFor config session.old solo →
+    ensures own { (config : TenantConfig) (solo : SoloSession) →
+        SessionStandsFor config session.old solo →
         HasDone config (session_does config solo deeds.Create) result (KeptSession session.new) }
-    ensures asks { OnErr result ((config : TenantConfig) (solo : SoloSession) → SessionStandsFor config session.old solo → is_refusal (session_does config solo deeds.Create).reply ≡ false) }
+    ensures asks { OnErr result
+        ((config : TenantConfig) (solo : SoloSession) → SessionStandsFor config session.old solo →
+        is_refusal (session_does config solo deeds.Create).reply ≡ false) }
     ensures setting { session.new.setting ≡ session.old.setting }
     ensures lack { IsTrue (is_out_of_memory (told_act result)) → session.new ≡ session.old }
 {
@@ -121,8 +124,10 @@ fn create(session: &mut Session) -> Result<Reply, AllocError>
 }
 
 fn delete(session: &mut Session, number: u64) -> Reply
-    ensures own { (config : TenantConfig) (solo : SoloSession) → SessionStandsFor config session.old solo →
-        HasDone config (session_does config solo (deeds.Delete number)) (Ok result) (KeptSession session.new) }
+    ensures own { (config : TenantConfig) (solo : SoloSession) →
+        SessionStandsFor config session.old solo →
+        HasDone config (session_does config solo (deeds.Delete number)) (Ok result)
+        (KeptSession session.new) }
     ensures setting { session.new.setting ≡ session.old.setting }
     ensures lack { IsTrue (is_out_of_memory result) → session.new ≡ session.old }
 {
@@ -138,9 +143,13 @@ fn begin_put(
     key: Key,
     value: Value,
 ) -> Result<Reply, AllocError>
-    ensures own { (config : TenantConfig) (solo : SoloSession) → SessionStandsFor config session.old solo →
-        HasDone config (session_does config solo (deeds.Put number key value)) result (KeptSession session.new) }
-    ensures asks { OnErr result ((config : TenantConfig) (solo : SoloSession) → SessionStandsFor config session.old solo → is_refusal (session_does config solo (deeds.Put number key value)).reply ≡ false) }
+    ensures own { (config : TenantConfig) (solo : SoloSession) →
+        SessionStandsFor config session.old solo →
+        HasDone config (session_does config solo (deeds.Put number key value)) result
+        (KeptSession session.new) }
+    ensures asks { OnErr result
+        ((config : TenantConfig) (solo : SoloSession) → SessionStandsFor config session.old solo →
+        is_refusal (session_does config solo (deeds.Put number key value)).reply ≡ false) }
     ensures setting { session.new.setting ≡ session.old.setting }
     ensures lack { IsTrue (is_out_of_memory (told_act result)) → session.new ≡ session.old }
 {
@@ -152,9 +161,13 @@ fn begin_put(
 }
 
 fn begin_get(session: &mut Session, number: u64, keys: &Keys) -> Result<Reply, AllocError>
-    ensures own { (config : TenantConfig) (solo : SoloSession) → SessionStandsFor config session.old solo →
-        HasDone config (session_does config solo (deeds.Get number keys.now)) result (KeptSession session.new) }
-    ensures asks { OnErr result ((config : TenantConfig) (solo : SoloSession) → SessionStandsFor config session.old solo → is_refusal (session_does config solo (deeds.Get number keys.now)).reply ≡ false) }
+    ensures own { (config : TenantConfig) (solo : SoloSession) →
+        SessionStandsFor config session.old solo →
+        HasDone config (session_does config solo (deeds.Get number keys.now)) result
+        (KeptSession session.new) }
+    ensures asks { OnErr result
+        ((config : TenantConfig) (solo : SoloSession) → SessionStandsFor config session.old solo →
+        is_refusal (session_does config solo (deeds.Get number keys.now)).reply ≡ false) }
     ensures setting { session.new.setting ≡ session.old.setting }
     ensures lack { IsTrue (is_out_of_memory (told_act result)) → session.new ≡ session.old }
 {
@@ -176,9 +189,13 @@ fn lists_of(alloc: Global, context: &Context) -> Result<(Deps, Near), AllocError
 }
 
 fn show(alloc: Global, session: &Session, number: u64) -> Result<Reply, AllocError>
-    ensures own { (config : TenantConfig) (solo : SoloSession) → SessionStandsFor config session.now solo →
-        HasDone config (session_does config solo (deeds.Show number)) result (KeptSession session.now) }
-    ensures asks { OnErr result ((config : TenantConfig) (solo : SoloSession) → SessionStandsFor config session.now solo → is_refusal (session_does config solo (deeds.Show number)).reply ≡ false) }
+    ensures own { (config : TenantConfig) (solo : SoloSession) →
+        SessionStandsFor config session.now solo →
+        HasDone config (session_does config solo (deeds.Show number)) result
+        (KeptSession session.now) }
+    ensures asks { OnErr result
+        ((config : TenantConfig) (solo : SoloSession) → SessionStandsFor config session.now solo →
+        is_refusal (session_does config solo (deeds.Show number)).reply ≡ false) }
 {
     match session.context(Handle::of_number(number)) {
         Ok(context) => match lists_of(alloc, context) {
@@ -191,9 +208,12 @@ fn show(alloc: Global, session: &Session, number: u64) -> Result<Reply, AllocErr
 
 /// Carries out a session command. Fails with `AllocError` if memory runs out, and changes nothing then.
 fn act_in(alloc: Global, session: &mut Session, deed: Deed) -> Result<Reply, AllocError>
-    ensures own { (config : TenantConfig) (solo : SoloSession) → SessionStandsFor config session.old solo →
+    ensures own { (config : TenantConfig) (solo : SoloSession) →
+        SessionStandsFor config session.old solo →
         HasDone config (session_does config solo deed) result (KeptSession session.new) }
-    ensures asks { OnErr result ((config : TenantConfig) (solo : SoloSession) → SessionStandsFor config session.old solo → is_refusal (session_does config solo deed).reply ≡ false) }
+    ensures asks { OnErr result
+        ((config : TenantConfig) (solo : SoloSession) → SessionStandsFor config session.old solo →
+        is_refusal (session_does config solo deed).reply ≡ false) }
     ensures needs { OnErr result (needs_memory deed ≡ true) }
     ensures setting { session.new.setting ≡ session.old.setting }
     ensures lack { IsTrue (is_out_of_memory (told_act result)) → session.new ≡ session.old }
@@ -252,10 +272,14 @@ fn step_session<N: Nodes>(
 ) -> Result<Reply, AllocError>
     requires data_centres { session.old.setting.data_centres ≡ (N.shape nodes.old).data_centres }
     requires shards { session.old.setting.shards ≡ (N.shape nodes.old).shards }
-    ensures steps { (config : TenantConfig) (solo : SoloSession) → SessionStandsFor config session.old solo →
-        SessionSteps (λ at id call reply. N.Answers nodes.old id session.old.setting.slot at call reply nodes.new) (nodes.new ≡ nodes.old) config solo moment result session.new solo.running }
+    ensures steps { (config : TenantConfig) (solo : SoloSession) →
+        SessionStandsFor config session.old solo →
+        SessionSteps (λ at id call reply.
+        N.Answers nodes.old id session.old.setting.slot at call reply nodes.new)
+        (nodes.new ≡ nodes.old) config solo moment result session.new solo.running }
     ensures once { (nodes.new ≡ nodes.old)
-        ⊎ ((id : NodeId) × (at : ℕ) × (call : NodeCall) × (reply : NodeReply) × N.Answers nodes.old id session.old.setting.slot at call reply nodes.new) }
+        ⊎ ((id : NodeId) × (at : ℕ) × (call : NodeCall) × (reply : NodeReply)
+        × N.Answers nodes.old id session.old.setting.slot at call reply nodes.new) }
     ensures shape { N.shape nodes.new ≡ N.shape nodes.old }
     ensures setting { session.new.setting ≡ session.old.setting }
 {
@@ -279,9 +303,12 @@ fn step_carrier<N: Nodes>(
 ) -> Result<Reply, AllocError>
     requires goes_on { has_ended carrier.old ≡ false }
     requires stream { RunsIn (N.shape nodes.old) carrier.old.shards carrier.old.stream }
-    ensures steps { (config : TenantConfig) (solo : SoloCarrier) → CarrierStandsFor config.shards carrier.old solo →
-        CarrierSteps (λ at id call reply. N.Answers nodes.old id slot at call reply nodes.new) config solo moment (stepped_to result (KeptCarrier carrier.new)) carrier.new }
-    ensures once { (id : NodeId) × (at : ℕ) × (call : NodeCall) × (reply : NodeReply) × N.Answers nodes.old id slot at call reply nodes.new }
+    ensures steps { (config : TenantConfig) (solo : SoloCarrier) →
+        CarrierStandsFor config.shards carrier.old solo →
+        CarrierSteps (λ at id call reply. N.Answers nodes.old id slot at call reply nodes.new)
+        config solo moment (stepped_to result (KeptCarrier carrier.new)) carrier.new }
+    ensures once { (id : NodeId) × (at : ℕ) × (call : NodeCall) × (reply : NodeReply)
+        × N.Answers nodes.old id slot at call reply nodes.new }
     ensures shape { N.shape nodes.new ≡ N.shape nodes.old }
     ensures last { has_ended carrier.new ≡ true → goes_on (told_act result) ≡ false }
     ensures stream { carrier.new.stream ≡ carrier.old.stream }
@@ -298,10 +325,14 @@ impl Actor {
     /// Does what it is asked to do, if it is a session. Fails with `AllocError` if memory runs out: then
     /// nothing changed, and what was asked isn't refused otherwise.
     pub(crate) fn act(&mut self, alloc: Global, deed: Deed) -> Result<Reply, AllocError>
-        ensures own { (config : TenantConfig) (solo : Solo) → ActorStandsFor config self.old solo → HasDone config (actor_does config deed solo) result self.new }
-        ensures asks { OnErr result ((config : TenantConfig) (solo : Solo) → ActorStandsFor config self.old solo → is_refusal (actor_does config deed solo).reply ≡ false) }
+        ensures own { (config : TenantConfig) (solo : Solo) → ActorStandsFor config self.old solo →
+            HasDone config (actor_does config deed solo) result self.new }
+        ensures asks { OnErr result
+            ((config : TenantConfig) (solo : Solo) → ActorStandsFor config self.old solo →
+            is_refusal (actor_does config deed solo).reply ≡ false) }
         ensures needs { OnErr result (needs_memory deed ≡ true) }
-        ensures runs { (shape : Shape) (slot : ℕ) → RunsAt shape slot self.old → RunsAt shape slot self.new }
+        ensures runs { (shape : Shape) (slot : ℕ) → RunsAt shape slot self.old →
+            RunsAt shape slot self.new }
         ensures lack { IsTrue (is_out_of_memory (told_act result)) → self.new ≡ self.old }
     {
         match self {
@@ -312,7 +343,8 @@ impl Actor {
 
     /// Returns why it refuses a put of this key, if it does. Allocates nothing.
     pub(crate) fn put_refusal(&self, number: u64, key: &Key) -> Option<Fault>
-        ensures { (config : TenantConfig) (solo : Solo) → ActorStandsFor config self.now solo → result ≡ actor_refusal_by (session_put_refusal config number key.now) solo }
+        ensures { (config : TenantConfig) (solo : Solo) → ActorStandsFor config self.now solo →
+            result ≡ actor_refusal_by (session_put_refusal config number key.now) solo }
     {
         match self {
             Actor::OfSession(own) => own.session.put_refusal(Handle::of_number(number), key),
@@ -323,7 +355,8 @@ impl Actor {
     /// Returns why it refuses a get transaction over keys of these bytes, if it does. Allocates
     /// nothing.
     pub(crate) fn get_refusal(&self, number: u64, keys: &ByteSlices) -> Option<Fault>
-        ensures { (config : TenantConfig) (solo : Solo) → ActorStandsFor config self.now solo → result ≡ actor_refusal_by (get_refusal config number keys.now) solo }
+        ensures { (config : TenantConfig) (solo : Solo) → ActorStandsFor config self.now solo →
+            result ≡ actor_refusal_by (get_refusal config number keys.now) solo }
     {
         match self {
             Actor::OfSession(own) => own.session.get_refusal(Handle::of_number(number), keys),
@@ -341,13 +374,17 @@ impl Actor {
         moment: u64,
     ) -> Result<Reply, AllocError>
         requires { RunsAt (N.shape nodes.old) slot self.old }
-        ensures steps { (config : TenantConfig) (solo : Solo) → ActorStandsFor config self.old solo →
-            ActorSteps (λ at id call reply. N.Answers nodes.old id slot at call reply nodes.new) (nodes.new ≡ nodes.old) config moment (stepped_to result self.new) solo self.new }
+        ensures steps { (config : TenantConfig) (solo : Solo) →
+            ActorStandsFor config self.old solo →
+            ActorSteps (λ at id call reply. N.Answers nodes.old id slot at call reply nodes.new)
+            (nodes.new ≡ nodes.old) config moment (stepped_to result self.new) solo self.new }
         ensures last { actor_ended self.new ≡ true → goes_on (told_act result) ≡ false }
         ensures once { (nodes.new ≡ nodes.old)
-            ⊎ ((id : NodeId) × (at : ℕ) × (call : NodeCall) × (reply : NodeReply) × N.Answers nodes.old id slot at call reply nodes.new) }
+            ⊎ ((id : NodeId) × (at : ℕ) × (call : NodeCall) × (reply : NodeReply)
+            × N.Answers nodes.old id slot at call reply nodes.new) }
         ensures shape { N.shape nodes.new ≡ N.shape nodes.old }
-        ensures runs { (shape : Shape) (slot : ℕ) → RunsAt shape slot self.old → RunsAt shape slot self.new }
+        ensures runs { (shape : Shape) (slot : ℕ) → RunsAt shape slot self.old →
+            RunsAt shape slot self.new }
     {
         match self {
             Actor::OfSession(own) => step_session(&mut own.session, nodes, moment),

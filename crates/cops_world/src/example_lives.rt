@@ -11,5 +11,6 @@ ghost use Rattle.cops_world.specs.HostRuns.{IsWithinLimits, TellsLives};
 pub fn second_life_finds_nothing_of_the_first()
     ensures good { IsTrue (is_good one_tenant) }
     ensures within { AllByRecursion IsWithinLimits two_lives }
-    ensures told { (replies : List LifeReply) → TellsLives one_tenant two_lives replies → IsFalse (list_any is_lack_reply replies) → replies ≡ told_in_two_lives }
+    ensures told { (replies : List LifeReply) → TellsLives one_tenant two_lives replies →
+        IsFalse (list_any is_lack_reply replies) → replies ≡ told_in_two_lives }
 {}

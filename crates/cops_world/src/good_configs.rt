@@ -50,7 +50,8 @@ fn are_tenants(tenants: &[Tenant]) -> bool
 
 /// Returns whether a cluster may have these sizes and this many restarts.
 fn are_sizes(data_centres: u64, shards: u64, trans_time: u64, restarts: u64) -> bool
-    ensures { result ≡ (is_between 1 8 data_centres && is_between 1 most_shards shards && is_u64 trans_time && nat_le restarts 15) }
+    ensures { result ≡ (is_between 1 8 data_centres && is_between 1 most_shards shards
+        && is_u64 trans_time && nat_le restarts 15) }
 {
     1 <= data_centres
         && data_centres <= 8

@@ -44,7 +44,9 @@ pub enum LifeReply {
 
 /// Lets the tenant of a slot act, if it has one.
 fn act_at(world: &mut World, slot: u64, act: &Act) -> LifeReply
-    ensures { IsDone open_setup HasOpenCluster world.old (acts_at slot act.now (open_at slot world.old.setup.tenants)) (answer_at slot result) world.new }
+    ensures { IsDone open_setup HasOpenCluster world.old
+        (acts_at slot act.now (open_at slot world.old.setup.tenants))
+        (answer_at slot result) world.new }
 {
     if world.tenants().tenant(slot).is_none() {
         return LifeReply::ToHost(HostReply::Denied(Fault::UnknownTenant));
@@ -55,7 +57,8 @@ fn act_at(world: &mut World, slot: u64, act: &Act) -> LifeReply
 /// Gives a slot to a tenant.
 fn admit_at(world: &mut World, slot: u64, tenant: Tenant) -> HostReply
     requires { IsTrue (is_tenant tenant) }
-    ensures { IsHosted open_setup HasOpenCluster world.old (admits_at world.old.setup.tenants slot tenant) (ToHost result) world.new }
+    ensures { IsHosted open_setup HasOpenCluster world.old
+        (admits_at world.old.setup.tenants slot tenant) (ToHost result) world.new }
 {
     let name = tenant.name;
     match world.admit_at(slot, tenant) {
@@ -67,7 +70,8 @@ fn admit_at(world: &mut World, slot: u64, tenant: Tenant) -> HostReply
 
 /// Takes a slot from its tenant, if it has one.
 fn close_at(world: &mut World, slot: u64) -> HostReply
-    ensures { IsHosted open_setup HasOpenCluster world.old (closes_at slot (open_at slot world.old.setup.tenants)) (ToHost result) world.new }
+    ensures { IsHosted open_setup HasOpenCluster world.old
+        (closes_at slot (open_at slot world.old.setup.tenants)) (ToHost result) world.new }
 {
     let Some(tenant) = world.tenants().tenant(slot) else {
         return HostReply::Denied(Fault::UnknownTenant);
@@ -80,7 +84,8 @@ fn close_at(world: &mut World, slot: u64) -> HostReply
 /// Applies one event.
 fn happen(world: &mut World, event: &HostEvent) -> LifeReply
     requires { IsWithinLimits event.now }
-    ensures { IsDone open_setup HasOpenCluster world.old (said_of world.old.setup.tenants event.now) (answer_at event.now.slot result) world.new }
+    ensures { IsDone open_setup HasOpenCluster world.old (said_of world.old.setup.tenants event.now)
+        (answer_at event.now.slot result) world.new }
 {
     match &event.doing {
         Doing::Own(act) => act_at(world, event.slot, act),
@@ -98,8 +103,12 @@ fn happen_all(
 ) -> Result<Vec<LifeReply>, AllocError>
     requires { AllByRecursion IsWithinLimits events.now }
     ensures length { IfOk result (λ told. length told.items ≡ length events.now) }
-    ensures lives { IfOk result (λ told. (config : Config) → 0 < config.shards → IsNew open_setup HasOpenCluster config world.old → TellsLives config events.now told.items) }
-    ensures alone { IfOk result (λ told. (config : Config) → 0 < config.shards → IsNew open_setup HasOpenCluster config world.old → AreLivedAlone config events.now told.items) }
+    ensures lives { IfOk result (λ told.
+        (config : Config) → 0 < config.shards → IsNew open_setup HasOpenCluster config world.old →
+        TellsLives config events.now told.items) }
+    ensures alone { IfOk result (λ told.
+        (config : Config) → 0 < config.shards → IsNew open_setup HasOpenCluster config world.old →
+        AreLivedAlone config events.now told.items) }
 {
     let mut told = Vec::with_capacity(alloc, events.len())?;
     for event in events {

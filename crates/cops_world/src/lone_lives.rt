@@ -37,7 +37,9 @@ fn live_in(
     slot: u64,
     events: &[HostEvent],
 ) -> Result<Vec<Reply>, AllocError>
-    ensures { IfOk result (λ told. (config : Config) (tenant : Tenant) → IsTrue (is_good (with_tenant_alone config tenant)) → IsNew open_setup HasOpenCluster (with_tenant_alone config tenant) world.old →
+    ensures { IfOk result (λ told.
+        (config : Config) (tenant : Tenant) → IsTrue (is_good (with_tenant_alone config tenant)) →
+        IsNew open_setup HasOpenCluster (with_tenant_alone config tenant) world.old →
         IsLivedAlone config (life_of slot events.now tenant) told.items) }
 {
     let mut told = Vec::new(alloc);
@@ -62,7 +64,8 @@ fn live_alone(
     events: &[HostEvent],
 ) -> Result<Vec<Reply>, AllocError>
     requires { IsTrue (is_good (with_tenant_alone config.now tenant.now)) }
-    ensures { IfOk result (λ told. IsLivedAlone config.now (life_of slot events.now tenant.now) told.items) }
+    ensures { IfOk result
+        (λ told. IsLivedAlone config.now (life_of slot events.now tenant.now) told.items) }
 {
     let alone = with_tenant_alone(alloc, config, tenant)?;
     let mut world = World::new(alloc, alone)?;
@@ -82,7 +85,9 @@ fn add_life(
     events: &[HostEvent],
 ) -> Result<(), AllocError>
     requires { IsTrue (is_good (with_tenant_alone config.now tenant.now)) }
-    ensures { OnOk result ((life : LoneLife) × (life.tenant ≡ tenant.now) × IsLivedAlone config.now (life_of slot events.now tenant.now) life.told.items × (lives.new.items ≡ lives.old.items ++ life ∷ [])) }
+    ensures { OnOk result ((life : LoneLife) × (life.tenant ≡ tenant.now)
+        × IsLivedAlone config.now (life_of slot events.now tenant.now) life.told.items
+        × (lives.new.items ≡ lives.old.items ++ life ∷ [])) }
 {
     let told = live_alone(alloc, config, slot, tenant, events)?;
     lives.push(LoneLife {
@@ -111,7 +116,8 @@ fn admitted_to(
 ) -> Result<Option<Tenant>, AllocError>
     requires { IsWithinLimits event.now }
     ensures given { IfOk result (λ given. given ≡ given_by slot (said_of tenants.old event.now)) }
-    ensures tenants { OnOk result (tenants.new ≡ tenants_after tenants.old (said_of tenants.old event.now)) }
+    ensures tenants { OnOk result
+        (tenants.new ≡ tenants_after tenants.old (said_of tenants.old event.now)) }
     ensures within { IfOk result (λ given. IfSome given (λ tenant. IsTrue (is_tenant tenant))) }
 {
     match &event.doing {
@@ -142,8 +148,10 @@ pub fn solo_lives(
 ) -> Result<Vec<LoneLife>, AllocError>
     requires good { IsTrue (is_good config.now) }
     requires within { AllByRecursion IsWithinLimits events.now }
-    ensures tenants { IfOk result (λ lives. map (λ life. life.tenant) lives.items ≡ map (λ life. life.tenant) (lives_at config.now slot events.now)) }
-    ensures alone { IfOk result (λ lives. AllPaired (IsLivedAlone config.now) (lives_at config.now slot events.now) (map (λ life. life.told.items) lives.items)) }
+    ensures tenants { IfOk result (λ lives. map (λ life. life.tenant) lives.items
+        ≡ map (λ life. life.tenant) (lives_at config.now slot events.now)) }
+    ensures alone { IfOk result (λ lives. AllPaired (IsLivedAlone config.now)
+        (lives_at config.now slot events.now) (map (λ life. life.told.items) lives.items)) }
 {
     let mut tenants = OpenTenants::of(alloc, &config.tenants)?;
     let mut lives = Vec::new(alloc);
@@ -168,8 +176,10 @@ pub fn solo_lives(
 /// Theorem: `run_lives` and `solo_lives` tell the tenant of a life the same, unless a reply is that
 /// memory ran out. Both have the same lives, unless an admission ran out of memory in `run_lives`.
 pub fn lives_are_those_alone()
-    ensures same { (config : Config) (lives : List Life) (told alone : List (List Reply)) → AllPaired (IsLivedAlone config) lives told → AllPaired (IsLivedAlone config) lives alone →
+    ensures same { (config : Config) (lives : List Life) (told alone : List (List Reply)) →
+        AllPaired (IsLivedAlone config) lives told → AllPaired (IsLivedAlone config) lives alone →
         AllPaired (λ one other. IsSpared one → IsSpared other → one ≡ other) told alone }
-    ensures heard { (events : List HostEvent) (replies : List LifeReply) → length replies ≡ length events → IsFalse (list_any lacks_memory replies) →
+    ensures heard { (events : List HostEvent) (replies : List LifeReply) →
+        length replies ≡ length events → IsFalse (list_any lacks_memory replies) →
         (events_heard events replies ≡ events) × (replies_heard replies ≡ replies) }
 {}

@@ -35,7 +35,8 @@ fn link(rows: &mut IndexMap<ActorId, ActorRow, Seeds>, at: usize, next: usize)
     requires at { at < index_map_len rows.old }
     requires next { next < index_map_len rows.old }
     ensures actors { actors_in rows.new.entries ≡ actors_in rows.old.entries }
-    ensures links { (place : ℕ) → links_at rows.new.entries place ≡ option_map (linked at next place) (links_at rows.old.entries place) }
+    ensures links { (place : ℕ) → links_at rows.new.entries place
+        ≡ option_map (linked at next place) (links_at rows.old.entries place) }
 {
     let row = &mut rows[at];
     row.behind = next;
@@ -46,11 +47,14 @@ fn link(rows: &mut IndexMap<ActorId, ActorRow, Seeds>, at: usize, next: usize)
 // Makes the neighbours of a row neighbours of each other.
 fn pass_over(rows: &mut IndexMap<ActorId, ActorRow, Seeds>, place: usize)
     requires place { place < index_map_len rows.old }
-    requires before { (own : Links) → links_at rows.old.entries place ≡ Some own → own.before < index_map_len rows.old }
-    requires behind { (own : Links) → links_at rows.old.entries place ≡ Some own → own.behind < index_map_len rows.old }
+    requires before { (own : Links) → links_at rows.old.entries place ≡ Some own →
+        own.before < index_map_len rows.old }
+    requires behind { (own : Links) → links_at rows.old.entries place ≡ Some own →
+        own.behind < index_map_len rows.old }
     ensures actors { actors_in rows.new.entries ≡ actors_in rows.old.entries }
     ensures links { (own : Links) → links_at rows.old.entries place ≡ Some own →
-        (q : ℕ) → links_at rows.new.entries q ≡ option_map (linked own.before own.behind q) (links_at rows.old.entries q) }
+        (q : ℕ) → links_at rows.new.entries q
+        ≡ option_map (linked own.before own.behind q) (links_at rows.old.entries q) }
 {
     let row = &rows[place];
     let before = row.before;
@@ -62,11 +66,15 @@ fn pass_over(rows: &mut IndexMap<ActorId, ActorRow, Seeds>, place: usize)
 fn hand_over(rows: &mut IndexMap<ActorId, ActorRow, Seeds>, from: usize, to: usize)
     requires from { from < index_map_len rows.old }
     requires to { to < index_map_len rows.old }
-    requires before { (own : Links) → links_at rows.old.entries from ≡ Some own → own.before < index_map_len rows.old }
-    requires behind { (own : Links) → links_at rows.old.entries from ≡ Some own → own.behind < index_map_len rows.old }
+    requires before { (own : Links) → links_at rows.old.entries from ≡ Some own →
+        own.before < index_map_len rows.old }
+    requires behind { (own : Links) → links_at rows.old.entries from ≡ Some own →
+        own.behind < index_map_len rows.old }
     ensures actors { actors_in rows.new.entries ≡ actors_in rows.old.entries }
     ensures links { (own : Links) → links_at rows.old.entries from ≡ Some own →
-        (q : ℕ) → links_at rows.new.entries q ≡ option_map (λ l. linked to own.behind q (linked own.before to q l)) (links_at rows.old.entries q) }
+        (q : ℕ) → links_at rows.new.entries q
+        ≡ option_map (λ l. linked to own.behind q (linked own.before to q l))
+        (links_at rows.old.entries q) }
 {
     let row = &rows[from];
     let before = row.before;
@@ -78,7 +86,8 @@ fn hand_over(rows: &mut IndexMap<ActorId, ActorRow, Seeds>, from: usize, to: usi
 // Lets a ring begin elsewhere if it began at this place.
 fn begin_behind(rings: &mut Vec<Ring>, slot: u64, from: usize, to: usize)
     requires { slot < length rings.old.items }
-    ensures { rings.new.items ≡ slice_set rings.old.items slot (passed_to from to (ring_at slot rings.old.items)) }
+    ensures { rings.new.items
+        ≡ slice_set rings.old.items slot (passed_to from to (ring_at slot rings.old.items)) }
 {
     let ring = &mut rings[slot as usize];
     if ring.first == from {
@@ -100,11 +109,14 @@ fn slot_of(rows: &IndexMap<ActorId, ActorRow, Seeds>, place: usize) -> u64
 // Takes a row out of the ring of its slot.
 fn take_out(rows: &mut IndexMap<ActorId, ActorRow, Seeds>, rings: &mut Vec<Ring>, place: usize)
     requires place { place < index_map_len rows.old }
-    requires rings { AreRings (links_at rows.old.entries) (length rings.old.items) (first_in rings.old.items) }
+    requires rings { AreRings (links_at rows.old.entries) (length rings.old.items)
+        (first_in rings.old.items) }
     ensures actors { actors_in rows.new.entries ≡ actors_in rows.old.entries }
-    ensures rings { AreRings (holed place (links_at rows.new.entries)) (length rings.new.items) (first_in rings.new.items) }
+    ensures rings { AreRings (holed place (links_at rows.new.entries)) (length rings.new.items)
+        (first_in rings.new.items) }
     ensures len { length rings.new.items ≡ length rings.old.items }
-    ensures counts { (slot : ℕ) → (ring_at slot rings.new.items).count ≡ (ring_at slot rings.old.items).count }
+    ensures counts { (slot : ℕ) →
+        (ring_at slot rings.new.items).count ≡ (ring_at slot rings.old.items).count }
 {
     let slot = slot_of(rows, place);
     let row = &rows[place];
@@ -116,11 +128,14 @@ fn take_out(rows: &mut IndexMap<ActorId, ActorRow, Seeds>, rings: &mut Vec<Ring>
 // Makes the neighbours of the last row those of a place that is in no ring, unless it is the last.
 fn make_way(rows: &mut IndexMap<ActorId, ActorRow, Seeds>, rings: &mut Vec<Ring>, place: usize)
     requires place { place < index_map_len rows.old }
-    requires rings { AreRings (holed place (links_at rows.old.entries)) (length rings.old.items) (first_in rings.old.items) }
+    requires rings { AreRings (holed place (links_at rows.old.entries)) (length rings.old.items)
+        (first_in rings.old.items) }
     ensures actors { actors_in rows.new.entries ≡ actors_in rows.old.entries }
-    ensures rings { (e : ActorId × Row) → AreRings (links_at (swap_remove rows.new.entries place e)) (length rings.new.items) (first_in rings.new.items) }
+    ensures rings { (e : ActorId × Row) → AreRings (links_at (swap_remove rows.new.entries place e))
+        (length rings.new.items) (first_in rings.new.items) }
     ensures len { length rings.new.items ≡ length rings.old.items }
-    ensures counts { (slot : ℕ) → (ring_at slot rings.new.items).count ≡ (ring_at slot rings.old.items).count }
+    ensures counts { (slot : ℕ) →
+        (ring_at slot rings.new.items).count ≡ (ring_at slot rings.old.items).count }
 {
     let last = rows.len() - 1;
     if last == place {
@@ -142,9 +157,11 @@ pub(crate) fn remove(
     requires kept { AreKeptIn rows.old.entries rings.old.items }
     ensures kept { AreKeptIn rows.new.entries rings.new.items }
     ensures out { (id : Id) (row : Row) → slice_get rows.old.entries place ≡ Some (id, row) →
-        Places (table_in rows.old.entries rings.old.items) id None (table_in rows.new.entries rings.new.items) }
+        Places (table_in rows.old.entries rings.old.items) id None
+        (table_in rows.new.entries rings.new.items) }
     ensures count { (id : Id) (row : Row) → slice_get rows.old.entries place ≡ Some (id, row) →
-        count_at (table_in rows.new.entries rings.new.items) id.slot + 1 ≡ count_at (table_in rows.old.entries rings.old.items) id.slot }
+        count_at (table_in rows.new.entries rings.new.items) id.slot + 1
+        ≡ count_at (table_in rows.old.entries rings.old.items) id.slot }
 {
     let slot = slot_of(rows, place);
     take_out(rows, rings, place);
@@ -159,12 +176,16 @@ fn lead_in(rows: &mut IndexMap<ActorId, ActorRow, Seeds>, ring: &mut Ring, at: u
     requires at { at < index_map_len rows.old }
     requires counted { ring.old.count + 1 < 2 ^ 64 }
     requires first { 0 < ring.old.count → ring.old.first < index_map_len rows.old }
-    requires before { 0 < ring.old.count → (own : Links) → links_at rows.old.entries ring.old.first ≡ Some own → own.before < index_map_len rows.old }
+    requires before { 0 < ring.old.count → (own : Links) →
+        links_at rows.old.entries ring.old.first ≡ Some own → own.before < index_map_len rows.old }
     ensures ring { ring.new ≡ longer at ring.old }
     ensures actors { actors_in rows.new.entries ≡ actors_in rows.old.entries }
     ensures alone { ring.old.count ≡ 0 → rows.new.entries ≡ rows.old.entries }
-    ensures links { 0 < ring.old.count → (own : Links) → links_at rows.old.entries ring.old.first ≡ Some own →
-        (q : ℕ) → links_at rows.new.entries q ≡ option_map (λ l. linked at ring.old.first q (linked own.before at q l)) (links_at rows.old.entries q) }
+    ensures links { 0 < ring.old.count → (own : Links) →
+        links_at rows.old.entries ring.old.first ≡ Some own →
+        (q : ℕ) → links_at rows.new.entries q
+        ≡ option_map (λ l. linked at ring.old.first q (linked own.before at q l))
+        (links_at rows.old.entries q) }
 {
     if ring.count == 0 {
         ring.first = at;
@@ -186,10 +207,15 @@ fn append(
     id: ActorId,
     row: ActorRow,
 ) -> Result<bool, AllocError>
-    ensures free { IfOk result (λ added. added ≡ true → lookup (same_actor id) rows.old.entries ≡ None) }
-    ensures entries { IfOk result (λ added. added ≡ true → rows.new.entries ≡ insert_entry same_actor rows.old.entries id row) }
-    ensures updates { IfOk result (λ added. added ≡ true → (q : Id) → lookup (same_actor q) rows.new.entries ≡ (if same_actor id q then Some row else lookup (same_actor q) rows.old.entries)) }
-    ensures taken { IfOk result (λ added. added ≡ false → is_some (lookup (same_actor id) rows.old.entries) ≡ true) }
+    ensures free { IfOk result
+        (λ added. added ≡ true → lookup (same_actor id) rows.old.entries ≡ None) }
+    ensures entries { IfOk result (λ added.
+        added ≡ true → rows.new.entries ≡ insert_entry same_actor rows.old.entries id row) }
+    ensures updates { IfOk result
+        (λ added. added ≡ true → (q : Id) → lookup (same_actor q) rows.new.entries
+        ≡ (if same_actor id q then Some row else lookup (same_actor q) rows.old.entries)) }
+    ensures taken { IfOk result
+        (λ added. added ≡ false → is_some (lookup (same_actor id) rows.old.entries) ≡ true) }
     ensures same { IfOk result (λ added. added ≡ false → rows.new.entries ≡ rows.old.entries) }
     ensures err { OnErr result (rows.new.entries ≡ rows.old.entries) }
     ensures lacks { OnErr result (lookup (same_actor id) rows.old.entries ≡ None) }
@@ -215,12 +241,20 @@ pub(crate) fn add(
     requires slot { id.slot < length rings.old.items }
     requires kept { AreKeptIn rows.old.entries rings.old.items }
     ensures kept { AreKeptIn rows.new.entries rings.new.items }
-    ensures free { IfOk result (λ added. added ≡ true → actor_at (table_in rows.old.entries rings.old.items) id ≡ None) }
-    ensures ok { IfOk result (λ added. added ≡ true → Places (table_in rows.old.entries rings.old.items) id (Some actor) (table_in rows.new.entries rings.new.items)) }
-    ensures count { IfOk result (λ added. added ≡ true → count_at (table_in rows.new.entries rings.new.items) id.slot ≡ count_at (table_in rows.old.entries rings.old.items) id.slot + 1) }
-    ensures taken { IfOk result (λ added. added ≡ false → is_some (actor_at (table_in rows.old.entries rings.old.items) id) ≡ true) }
-    ensures same { IfOk result (λ added. added ≡ false → table_in rows.new.entries rings.new.items ≡ table_in rows.old.entries rings.old.items) }
-    ensures err { OnErr result (table_in rows.new.entries rings.new.items ≡ table_in rows.old.entries rings.old.items) }
+    ensures free { IfOk result
+        (λ added. added ≡ true → actor_at (table_in rows.old.entries rings.old.items) id ≡ None) }
+    ensures ok { IfOk result
+        (λ added. added ≡ true → Places (table_in rows.old.entries rings.old.items) id (Some actor)
+        (table_in rows.new.entries rings.new.items)) }
+    ensures count { IfOk result
+        (λ added. added ≡ true → count_at (table_in rows.new.entries rings.new.items) id.slot
+        ≡ count_at (table_in rows.old.entries rings.old.items) id.slot + 1) }
+    ensures taken { IfOk result (λ added.
+        added ≡ false → is_some (actor_at (table_in rows.old.entries rings.old.items) id) ≡ true) }
+    ensures same { IfOk result (λ added. added ≡ false →
+        table_in rows.new.entries rings.new.items ≡ table_in rows.old.entries rings.old.items) }
+    ensures err { OnErr result
+        (table_in rows.new.entries rings.new.items ≡ table_in rows.old.entries rings.old.items) }
     ensures lacks { OnErr result (actor_at (table_in rows.old.entries rings.old.items) id ≡ None) }
 {
     let at = rows.len();
@@ -244,7 +278,8 @@ pub(crate) fn clear(rows: &mut IndexMap<ActorId, ActorRow, Seeds>, rings: &mut V
     requires slot { slot < length rings.old.items }
     requires kept { AreKeptIn rows.old.entries rings.old.items }
     ensures kept { AreKeptIn rows.new.entries rings.new.items }
-    ensures cleared { IsClearedOf slot (table_in rows.old.entries rings.old.items) (table_in rows.new.entries rings.new.items) }
+    ensures cleared { IsClearedOf slot (table_in rows.old.entries rings.old.items)
+        (table_in rows.new.entries rings.new.items) }
 {
     while rings[slot as usize].count > 0 {
         let ring = rings[slot as usize];

@@ -25,12 +25,15 @@ pub fn script_world<R: Read>(
 ) -> Result<World, RunFault<BadConfig>>
     // All is read, and the world is what it leaves.
     ensures end { OnOk result (IsAtEnd (R.remaining (source_reader source.new))) }
-    ensures ok { IfOk result (λ world. IfSome (R.remaining (source_reader source.old)) (λ bytes. IsLeftBy open_setup HasOpenCluster bytes world)) }
-    ensures read { IfOk result (IsLeftByRead open_setup HasOpenCluster (R.remaining (source_reader source.old)) (R.remaining (source_reader source.new))) }
+    ensures ok { IfOk result (λ world. IfSome (R.remaining (source_reader source.old))
+        (λ bytes. IsLeftBy open_setup HasOpenCluster bytes world)) }
+    ensures read { IfOk result (IsLeftByRead open_setup HasOpenCluster
+        (R.remaining (source_reader source.old)) (R.remaining (source_reader source.new))) }
 
     // A bad head is refused.
     ensures bad_head { IfErr result (λ fault. IfRunRefused fault (λ bad.
-        IfSome (R.remaining (source_reader source.old)) (λ bytes. head_of (lines_of bytes) ≡ BadAt bad.line))) }
+        IfSome (R.remaining (source_reader source.old))
+        (λ bytes. head_of (lines_of bytes) ≡ BadAt bad.line))) }
 
     // The reader failed in this call, or the bound on turns was met. Nothing is written.
     ensures read_fault { IsErrOf result RunFault.ReadFault →

@@ -26,7 +26,9 @@ pub fn run_world(
     ensures setup { IfOk result (λ run. open_setup run.0 ≡ new_setup config) }
     ensures theorem { IfOk result (λ run. MainTheorem config events.now run.1.items) }
     ensures left { IfOk result (λ run. (slot : ℕ) → slot < length config.tenants →
-        (left : SoloCluster) × Goes (config_at config slot) (own slot events.now) (replies slot events.now run.1.items) (new_cluster (config_at config slot)) left × HasOpenCluster run.0 slot left) }
+        (left : SoloCluster) × Goes (config_at config slot) (own slot events.now)
+        (replies slot events.now run.1.items) (new_cluster (config_at config slot)) left
+        × HasOpenCluster run.0 slot left) }
 {
     let mut world = World::new(alloc, config)?;
     let told = run_all(alloc, &mut world, events)?;
@@ -55,8 +57,10 @@ fn answer_own(
     events: &[Event],
 ) -> Result<Vec<Reply>, AllocError>
     ensures length { IfOk result (λ told. length told.items ≡ length (own slot events.now)) }
-    ensures run { IfOk result (λ told. (cluster : SoloCluster) → HasOpenCluster world.old 0 cluster →
-        (left : SoloCluster) × Goes (config_in world.old.setup 0) (own slot events.now) told.items cluster left) }
+    ensures run { IfOk result
+        (λ told. (cluster : SoloCluster) → HasOpenCluster world.old 0 cluster →
+        (left : SoloCluster)
+        × Goes (config_in world.old.setup 0) (own slot events.now) told.items cluster left) }
 {
     let mut told = Vec::new(alloc);
     for event in events {
@@ -77,7 +81,8 @@ pub fn solo(
     requires good { IsTrue (is_good config.now) }
     requires slot { slot < length config.now.tenants }
     ensures length { IfOk result (λ told. length told.items ≡ length (own slot events.now)) }
-    ensures run { IfOk result (λ told. IsCausalRun (config_at config.now slot) (own slot events.now) told.items) }
+    ensures run { IfOk result
+        (λ told. IsCausalRun (config_at config.now slot) (own slot events.now) told.items) }
 {
     let alone = with_tenant_alone(alloc, config, config.tenants.tenant(slot))?;
     let mut world = World::new(alloc, alone)?;

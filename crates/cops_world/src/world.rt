@@ -120,7 +120,8 @@ fn new_session(
 ) -> Result<Actor, AllocError>
     requires dc { dc < config.now.data_centres }
     requires shards { 0 < config.now.shards }
-    ensures stands { IfOk result (λ actor. ActorStandsFor (tenant_config config.now tenant.now) actor (Solo.OfSession (new_session dc 1))) }
+    ensures stands { IfOk result (λ actor. ActorStandsFor (tenant_config config.now tenant.now)
+        actor (Solo.OfSession (new_session dc 1))) }
     ensures runs { IfOk result (RunsAt (shape_of config.now) slot) }
 {
     let session = Session::of_tenant(alloc, config, tenant, slot, dc);
@@ -129,9 +130,11 @@ fn new_session(
 
 /// A carrier from a node to another data centre, as an actor.
 fn new_carrier(config: &Config, origin: NodeId, to_dc: u64) -> Actor
-    requires { RunsIn (shape_of config.now) config.now.shards (record { origin = origin; to_dc = to_dc }) }
+    requires { RunsIn (shape_of config.now) config.now.shards
+        (record { origin = origin; to_dc = to_dc }) }
     ensures stands { (tenant : TenantConfig) → tenant.shards ≡ config.now.shards →
-        ActorStandsFor tenant result (Solo.OfCarrier (new_carrier (record { origin = origin; to_dc = to_dc }))) }
+        ActorStandsFor tenant result
+        (Solo.OfCarrier (new_carrier (record { origin = origin; to_dc = to_dc }))) }
     ensures runs { (slot : ℕ) → RunsAt (shape_of config.now) slot result }
 {
     Actor::OfCarrier(Carrier::new(config, origin, to_dc))
@@ -158,8 +161,10 @@ fn reply_of_collect(reply: NodeReply) -> Reply
 impl World {
     /// Lets a session of a tenant carry out a command.
     fn ask(&mut self, slot: u64, name: &Name, deed: Deed) -> Result<Reply, AllocError>
-        ensures moves { Moves AnyReply (λ config. deed_step config name.now deed) (world_of self.old) slot result (world_of self.new) }
-        ensures lack { Leaves (DeedLacks name.now deed) (world_of self.old) slot result (world_of self.new) }
+        ensures moves { Moves AnyReply (λ config. deed_step config name.now deed)
+            (world_of self.old) slot result (world_of self.new) }
+        ensures lack { Leaves (DeedLacks name.now deed) (world_of self.old) slot result
+            (world_of self.new) }
     {
         let id = ActorId { slot, name: *name };
         let cell = Guesses::cell_of(&id);
@@ -174,8 +179,10 @@ impl World {
     /// Creates a context of a session.
     #[inline(never)]
     fn create(&mut self, slot: u64, name: &Name) -> Result<Reply, AllocError>
-        ensures moves { Moves AnyReply (λ config. cluster_step config (acts.Create name.now)) (world_of self.old) slot result (world_of self.new) }
-        ensures lack { Leaves (λ config. Lacks config (acts.Create name.now)) (world_of self.old) slot result (world_of self.new) }
+        ensures moves { Moves AnyReply (λ config. cluster_step config (acts.Create name.now))
+            (world_of self.old) slot result (world_of self.new) }
+        ensures lack { Leaves (λ config. Lacks config (acts.Create name.now))
+            (world_of self.old) slot result (world_of self.new) }
     {
         self.ask(slot, name, Deed::Create)
     }
@@ -183,8 +190,10 @@ impl World {
     /// Deletes a context of a session.
     #[inline(never)]
     fn delete(&mut self, slot: u64, name: &Name, number: u64) -> Result<Reply, AllocError>
-        ensures moves { Moves AnyReply (λ config. cluster_step config (acts.Delete name.now number)) (world_of self.old) slot result (world_of self.new) }
-        ensures lack { Leaves (λ config. Lacks config (acts.Delete name.now number)) (world_of self.old) slot result (world_of self.new) }
+        ensures moves { Moves AnyReply (λ config. cluster_step config (acts.Delete name.now number))
+            (world_of self.old) slot result (world_of self.new) }
+        ensures lack { Leaves (λ config. Lacks config (acts.Delete name.now number))
+            (world_of self.old) slot result (world_of self.new) }
     {
         self.ask(slot, name, Deed::Delete(number))
     }
@@ -192,8 +201,10 @@ impl World {
     /// Shows the two lists of a context of a session.
     #[inline(never)]
     fn show(&mut self, slot: u64, name: &Name, number: u64) -> Result<Reply, AllocError>
-        ensures moves { Moves AnyReply (λ config. cluster_step config (acts.Show name.now number)) (world_of self.old) slot result (world_of self.new) }
-        ensures lack { Leaves (λ config. Lacks config (acts.Show name.now number)) (world_of self.old) slot result (world_of self.new) }
+        ensures moves { Moves AnyReply (λ config. cluster_step config (acts.Show name.now number))
+            (world_of self.old) slot result (world_of self.new) }
+        ensures lack { Leaves (λ config. Lacks config (acts.Show name.now number))
+            (world_of self.old) slot result (world_of self.new) }
     {
         self.ask(slot, name, Deed::Show(number))
     }
@@ -221,7 +232,8 @@ impl World {
     /// Returns whether a tenant has as many actors as it may.
     fn is_full(&self, slot: u64) -> bool
         requires { IsTrue (is_open_at self.now.setup slot) }
-        ensures { result ≡ nat_le (config_in self.now.setup slot).quota.actors ((world_of self.now).count slot) }
+        ensures { result
+            ≡ nat_le (config_in self.now.setup slot).quota.actors ((world_of self.now).count slot) }
     {
         let tenant = self.tenant(slot);
         self.actors.count(slot) as u64 >= tenant.quota.actors
@@ -237,10 +249,13 @@ impl World {
     /// Returns why a new actor may not join: its name is taken, or its tenant has as many as it may.
     fn refuses(&self, id: ActorId) -> Option<Fault>
         requires { IsTrue (is_open_at self.now.setup id.slot) }
-        ensures refused { IfSome result (λ fault. (solo : Solo) (reply : Reply) → Moves AnyReply (join_step id.name solo reply) (world_of self.now) id.slot (Ok (Refused fault)) (world_of self.now)) }
+        ensures refused { IfSome result
+            (λ fault. (solo : Solo) (reply : Reply) → Moves AnyReply (join_step id.name solo reply)
+            (world_of self.now) id.slot (Ok (Refused fault)) (world_of self.now)) }
         ensures spared { IfSome result (λ fault. fault ≢ OutOfMemory) }
         ensures free { IfNone result ((world_of self.now).actors id ≡ None) }
-        ensures room { IfNone result (nat_le (config_in self.now.setup id.slot).quota.actors ((world_of self.now).count id.slot) ≡ false) }
+        ensures room { IfNone result (nat_le (config_in self.now.setup id.slot).quota.actors
+            ((world_of self.now).count id.slot) ≡ false) }
     {
         if self.has_actor(&id) {
             return Some(Fault::NameTaken);
@@ -255,9 +270,12 @@ impl World {
     /// otherwise.
     fn refuses_if_full(&self, id: ActorId) -> Option<Fault>
         requires { IsTrue (is_open_at self.now.setup id.slot) }
-        ensures refused { IfSome result (λ fault. (solo : Solo) (reply : Reply) → Moves AnyReply (join_step id.name solo reply) (world_of self.now) id.slot (Ok (Refused fault)) (world_of self.now)) }
+        ensures refused { IfSome result
+            (λ fault. (solo : Solo) (reply : Reply) → Moves AnyReply (join_step id.name solo reply)
+            (world_of self.now) id.slot (Ok (Refused fault)) (world_of self.now)) }
         ensures spared { IfSome result (λ fault. fault ≢ OutOfMemory) }
-        ensures room { IfNone result (nat_le (config_in self.now.setup id.slot).quota.actors ((world_of self.now).count id.slot) ≡ false) }
+        ensures room { IfNone result (nat_le (config_in self.now.setup id.slot).quota.actors
+            ((world_of self.now).count id.slot) ≡ false) }
     {
         if self.is_full(id.slot) {
             return self.refuses(id);
@@ -270,11 +288,16 @@ impl World {
     fn join(&mut self, id: ActorId, actor: Actor) -> Result<Option<Fault>, AllocError>
         requires slot { IsTrue (is_open_at self.old.setup id.slot) }
         requires runs { RunsAt (shape_of self.old.setup.head) id.slot actor }
-        requires room { nat_le (config_in self.old.setup id.slot).quota.actors ((world_of self.old).count id.slot) ≡ false }
-        ensures joined { IfOk result (λ refusal. IfNone refusal ((solo : Solo) (reply : Reply) → ActorStandsFor (config_in self.old.setup id.slot) actor solo →
-            Moves AnyReply (join_step id.name solo reply) (world_of self.old) id.slot (Ok reply) (world_of self.new))) }
-        ensures refused { IfOk result (λ refusal. IfSome refusal (λ fault. (solo : Solo) (reply : Reply) →
-            Moves AnyReply (join_step id.name solo reply) (world_of self.old) id.slot (Ok (Refused fault)) (world_of self.new))) }
+        requires room { nat_le (config_in self.old.setup id.slot).quota.actors
+            ((world_of self.old).count id.slot) ≡ false }
+        ensures joined { IfOk result (λ refusal. IfNone refusal ((solo : Solo) (reply : Reply) →
+            ActorStandsFor (config_in self.old.setup id.slot) actor solo →
+            Moves AnyReply (join_step id.name solo reply) (world_of self.old) id.slot (Ok reply)
+            (world_of self.new))) }
+        ensures refused { IfOk result
+            (λ refusal. IfSome refusal (λ fault. (solo : Solo) (reply : Reply) →
+            Moves AnyReply (join_step id.name solo reply) (world_of self.old) id.slot
+            (Ok (Refused fault)) (world_of self.new))) }
         ensures spared { IfOk result (λ refusal. IfSome refusal (λ fault. fault ≢ OutOfMemory)) }
         ensures err { OnErr result (world_of self.new ≡ world_of self.old) }
         ensures free { OnErr result ((world_of self.old).actors id ≡ None) }
@@ -290,8 +313,10 @@ impl World {
     #[inline(never)]
     fn open(&mut self, slot: u64, name: &Name, dc: u64) -> Result<Reply, AllocError>
         requires { IsTrue (is_open_at self.old.setup slot) }
-        ensures moves { Moves AnyReply (λ config. cluster_step config (acts.Open name.now dc)) (world_of self.old) slot result (world_of self.new) }
-        ensures lack { Leaves (λ config. Lacks config (acts.Open name.now dc)) (world_of self.old) slot result (world_of self.new) }
+        ensures moves { Moves AnyReply (λ config. cluster_step config (acts.Open name.now dc))
+            (world_of self.old) slot result (world_of self.new) }
+        ensures lack { Leaves (λ config. Lacks config (acts.Open name.now dc))
+            (world_of self.old) slot result (world_of self.new) }
     {
         if dc >= self.config.data_centres {
             return Ok(Reply::Refused(Fault::NoSuchPlace));
@@ -310,14 +335,16 @@ impl World {
 
     /// Returns whether there is a node of this id.
     fn has_node(&self, dc: u64, shard: u64) -> bool
-        ensures { (config : TenantConfig) → HasSizes config self.now.setup.head → result ≡ has_node config dc shard }
+        ensures { (config : TenantConfig) → HasSizes config self.now.setup.head →
+            result ≡ has_node config dc shard }
     {
         dc < self.config.data_centres && shard < self.config.shards
     }
 
     /// Returns whether there is a node of this id, and this data centre, which is another one.
     fn has_stream(&self, origin: NodeId, to_dc: u64) -> bool
-        ensures { (config : TenantConfig) → HasSizes config self.now.setup.head → result ≡ has_stream config origin.dc origin.shard to_dc }
+        ensures { (config : TenantConfig) → HasSizes config self.now.setup.head →
+            result ≡ has_stream config origin.dc origin.shard to_dc }
     {
         self.has_node(origin.dc, origin.shard)
             && to_dc < self.config.data_centres
@@ -334,8 +361,12 @@ impl World {
         to_dc: u64,
     ) -> Result<Reply, AllocError>
         requires { IsTrue (is_open_at self.old.setup slot) }
-        ensures moves { Moves AnyReply (λ config. cluster_step config (acts.Carry name.now origin.dc origin.shard to_dc)) (world_of self.old) slot result (world_of self.new) }
-        ensures lack { Leaves (λ config. Lacks config (acts.Carry name.now origin.dc origin.shard to_dc)) (world_of self.old) slot result (world_of self.new) }
+        ensures moves { Moves AnyReply
+            (λ config. cluster_step config (acts.Carry name.now origin.dc origin.shard to_dc))
+            (world_of self.old) slot result (world_of self.new) }
+        ensures lack { Leaves
+            (λ config. Lacks config (acts.Carry name.now origin.dc origin.shard to_dc))
+            (world_of self.old) slot result (world_of self.new) }
     {
         if !self.has_stream(origin, to_dc) {
             return Ok(Reply::Refused(Fault::NoSuchPlace));
@@ -367,8 +398,12 @@ impl World {
     fn step_at(&mut self, place: usize, id: &ActorId, moment: u64) -> Result<Reply, AllocError>
         requires slot { IsTrue (is_open_at self.old.setup id.now.slot) }
         requires place { Some place ≡ actor_place id.now self.old.table }
-        ensures moves { (left : KeptWorld) → IsLeft id.now self.new left → Moves IsSparedReply (λ config. actor_step config id.now.name moment) (world_of self.old) id.now.slot result (world_of left) }
-        ensures lack { (left : KeptWorld) → IsLeft id.now self.new left → Leaves (λ config. StepStops config id.now.name moment) (world_of self.old) id.now.slot result (world_of left) }
+        ensures moves { (left : KeptWorld) → IsLeft id.now self.new left →
+            Moves IsSparedReply (λ config. actor_step config id.now.name moment)
+            (world_of self.old) id.now.slot result (world_of left) }
+        ensures lack { (left : KeptWorld) → IsLeft id.now self.new left →
+            Leaves (λ config. StepStops config id.now.name moment)
+            (world_of self.old) id.now.slot result (world_of left) }
         ensures goes_on { goes_on (told_act result) ≡ true → IsLeft id.now self.new self.new }
         ensures place { Some place ≡ actor_place id.now self.new.table }
         ensures setup { self.new.setup ≡ self.old.setup }
@@ -398,8 +433,10 @@ impl World {
         mut more: u64,
     ) -> Result<Reply, AllocError>
         requires { IsTrue (is_open_at self.old.setup slot) }
-        ensures moves { Moves IsSparedReply (λ config. actor_steps more config name.now moment) (world_of self.old) slot result (world_of self.new) }
-        ensures lack { Leaves (λ config. StepsStop more config name.now moment) (world_of self.old) slot result (world_of self.new) }
+        ensures moves { Moves IsSparedReply (λ config. actor_steps more config name.now moment)
+            (world_of self.old) slot result (world_of self.new) }
+        ensures lack { Leaves (λ config. StepsStop more config name.now moment)
+            (world_of self.old) slot result (world_of self.new) }
     {
         let id = ActorId { slot, name: *name };
         let Some(place) = self.place_of(&id) else {
@@ -423,8 +460,11 @@ impl World {
     #[inline(never)]
     fn collect(&mut self, slot: u64, id: NodeId, moment: u64) -> Result<Reply, AllocError>
         requires { IsTrue (is_open_at self.old.setup slot) }
-        ensures moves { Moves AnyReply (λ config. cluster_step config (acts.Collect id.dc id.shard moment)) (world_of self.old) slot result (world_of self.new) }
-        ensures lack { Leaves (λ config. Lacks config (acts.Collect id.dc id.shard moment)) (world_of self.old) slot result (world_of self.new) }
+        ensures moves { Moves AnyReply
+            (λ config. cluster_step config (acts.Collect id.dc id.shard moment))
+            (world_of self.old) slot result (world_of self.new) }
+        ensures lack { Leaves (λ config. Lacks config (acts.Collect id.dc id.shard moment))
+            (world_of self.old) slot result (world_of self.new) }
     {
         if !self.has_node(id.dc, id.shard) {
             return Ok(Reply::Refused(Fault::NoSuchPlace));
@@ -437,7 +477,8 @@ impl World {
 
     /// Returns the actor of a name.
     fn actor(&self, slot: u64, name: &Name) -> Option<&Actor>
-        ensures { option_copied result ≡ (world_of self.now).actors (record { slot = slot; name = name.now }) }
+        ensures { option_copied result
+            ≡ (world_of self.now).actors (record { slot = slot; name = name.now }) }
     {
         self.actors.actor(&ActorId { slot, name: *name })
     }
@@ -453,7 +494,9 @@ impl World {
         value: &ByteSlice,
     ) -> Option<Fault>
         requires { IsTrue (is_key key.now) }
-        ensures { (cluster : SoloCluster) → ClusterStandsAt (world_of self.now) slot cluster → IsRefusalOf (config_in self.now.setup slot) (acts.Put name.now number key.now value.now) cluster result }
+        ensures { (cluster : SoloCluster) → ClusterStandsAt (world_of self.now) slot cluster →
+            IsRefusalOf (config_in self.now.setup slot)
+            (acts.Put name.now number key.now value.now) cluster result }
     {
         if value.as_slice().len() > LONGEST_VALUE {
             return Some(Fault::ValueTooLong);
@@ -473,8 +516,11 @@ impl World {
         key: &ByteSlice,
         value: &ByteSlice,
     ) -> Result<Reply, AllocError>
-        ensures moves { Moves AnyReply (λ config. cluster_step config (acts.Put name.now number key.now value.now)) (world_of self.old) slot result (world_of self.new) }
-        ensures lack { Leaves (λ config. Lacks config (acts.Put name.now number key.now value.now)) (world_of self.old) slot result (world_of self.new) }
+        ensures moves { Moves AnyReply
+            (λ config. cluster_step config (acts.Put name.now number key.now value.now))
+            (world_of self.old) slot result (world_of self.new) }
+        ensures lack { Leaves (λ config. Lacks config (acts.Put name.now number key.now value.now))
+            (world_of self.old) slot result (world_of self.new) }
     {
         let key = match Key::new(key.as_slice()) {
             Ok(key) => key,
@@ -493,7 +539,9 @@ impl World {
     #[inline(never)]
     fn get_refusal(&self, slot: u64, name: &Name, number: u64, keys: &ByteSlices) -> Option<Fault>
         requires { nat_lt (length keys.now) 1 ≡ false }
-        ensures { (cluster : SoloCluster) → ClusterStandsAt (world_of self.now) slot cluster → IsRefusalOf (config_in self.now.setup slot) (acts.Get name.now number keys.now) cluster result }
+        ensures { (cluster : SoloCluster) → ClusterStandsAt (world_of self.now) slot cluster →
+            IsRefusalOf (config_in self.now.setup slot)
+            (acts.Get name.now number keys.now) cluster result }
     {
         if !are_keys(keys) {
             return Some(Fault::BadKey);
@@ -512,8 +560,11 @@ impl World {
         number: u64,
         keys: &ByteSlices,
     ) -> Result<Reply, AllocError>
-        ensures moves { Moves AnyReply (λ config. cluster_step config (acts.Get name.now number keys.now)) (world_of self.old) slot result (world_of self.new) }
-        ensures lack { Leaves (λ config. Lacks config (acts.Get name.now number keys.now)) (world_of self.old) slot result (world_of self.new) }
+        ensures moves { Moves AnyReply
+            (λ config. cluster_step config (acts.Get name.now number keys.now))
+            (world_of self.old) slot result (world_of self.new) }
+        ensures lack { Leaves (λ config. Lacks config (acts.Get name.now number keys.now))
+            (world_of self.old) slot result (world_of self.new) }
     {
         if keys.is_empty() {
             return Ok(Reply::Refused(Fault::Syntax));
@@ -544,7 +595,8 @@ impl World {
     /// On a slot without a tenant it is `UnknownTenant`, and nothing changes.
     pub fn apply(&mut self, event: &Event) -> Result<Reply, AllocError>
         ensures acted { HasActed open_setup HasOpenCluster self.old event.now result self.new }
-        ensures vacant { IsFalse (is_open_at self.old.setup event.now.slot) → (result ≡ Ok (Refused UnknownTenant)) × (self.new ≡ self.old) }
+        ensures vacant { IsFalse (is_open_at self.old.setup event.now.slot) →
+            (result ≡ Ok (Refused UnknownTenant)) × (self.new ≡ self.old) }
     {
         Tenancy::act(self, event.slot, &event.act)
     }
@@ -555,8 +607,10 @@ impl World {
     pub fn admit_at(&mut self, slot: u64, tenant: Tenant) -> Result<(), RequestError>
         requires { IsTrue (is_tenant tenant) }
         ensures ok { OnOk result (Admits slot tenant self.old self.new) }
-        ensures refused { IfSome (admission_refusal self.old.setup.tenants slot tenant) (λ fault. result ≡ Err (RequestError.Refused fault)) }
-        ensures faults { IfRefusal result (λ fault. admission_refusal self.old.setup.tenants slot tenant ≡ Some fault) }
+        ensures refused { IfSome (admission_refusal self.old.setup.tenants slot tenant)
+            (λ fault. result ≡ Err (RequestError.Refused fault)) }
+        ensures faults { IfRefusal result
+            (λ fault. admission_refusal self.old.setup.tenants slot tenant ≡ Some fault) }
         ensures err { OnErr result (StaysOpen self.old self.new) }
     {
         let first_clock = tenant.first_clock;
@@ -584,8 +638,11 @@ impl World {
         requires { IsTrue (is_tenant tenant) }
         ensures least { IfOk result (λ slot. slot ≡ next_slot self.old.setup.tenants) }
         ensures ok { IfOk result (λ slot. Admits slot tenant self.old self.new) }
-        ensures refused { IfSome (admission_refusal self.old.setup.tenants (next_slot self.old.setup.tenants) tenant) (λ fault. result ≡ Err (RequestError.Refused fault)) }
-        ensures faults { IfRefusal result (λ fault. admission_refusal self.old.setup.tenants (next_slot self.old.setup.tenants) tenant ≡ Some fault) }
+        ensures refused { IfSome
+            (admission_refusal self.old.setup.tenants (next_slot self.old.setup.tenants) tenant)
+            (λ fault. result ≡ Err (RequestError.Refused fault)) }
+        ensures faults { IfRefusal result (λ fault. admission_refusal self.old.setup.tenants
+            (next_slot self.old.setup.tenants) tenant ≡ Some fault) }
         ensures err { OnErr result (StaysOpen self.old self.new) }
     {
         let slot = self.next_slot();
@@ -659,7 +716,8 @@ impl World {
     pub fn audit(&self, id: NodeId, slot: u64, place: u64) -> Option<&AuditRow>
         requires dc { id.dc < self.now.setup.head.data_centres }
         requires shard { id.shard < self.now.setup.head.shards }
-        ensures shows { (cluster : SoloCluster) → ClusterStandsAt (world_of self.now) slot cluster → option_copied result ≡ audited_at (config_in self.now.setup slot) id place cluster }
+        ensures shows { (cluster : SoloCluster) → ClusterStandsAt (world_of self.now) slot cluster →
+            option_copied result ≡ audited_at (config_in self.now.setup slot) id place cluster }
         ensures vacant { IsFalse (is_open_at self.now.setup slot) → result ≡ None }
     {
         let cluster = &self.nodes;
@@ -685,9 +743,12 @@ impl Tenancy for World {
     /// Makes the answer here: each function between would copy it.
     #[inline(never)]
     fn act(&mut self, slot: u64, act: &Act) -> Result<Reply, AllocError>
-        ensures moves { Moves (TellsExactly act.now) (λ config. cluster_step config act.now) (world_of self.old) slot result (world_of self.new) }
-        ensures lack { Leaves (λ config. Lacks config act.now) (world_of self.old) slot result (world_of self.new) }
-        ensures vacant { IsFalse (is_open_at self.old.setup slot) → (result ≡ Ok (Refused UnknownTenant)) × (self.new ≡ self.old) }
+        ensures moves { Moves (TellsExactly act.now) (λ config. cluster_step config act.now)
+            (world_of self.old) slot result (world_of self.new) }
+        ensures lack { Leaves (λ config. Lacks config act.now) (world_of self.old) slot result
+            (world_of self.new) }
+        ensures vacant { IsFalse (is_open_at self.old.setup slot) →
+            (result ≡ Ok (Refused UnknownTenant)) × (self.new ≡ self.old) }
     {
         if !self.has_tenant(slot) {
             return Ok(Reply::Refused(Fault::UnknownTenant));
