@@ -17,7 +17,8 @@ impl Answered {
     // Refuses the call.
     pub(crate) fn refused(alloc: Global, call: NodeCall, fault: Fault) -> Result<Self, AllocError>
         ensures told { IfOk result (λ answered. answered.told ≡ NodeReply.Refused fault) }
-        ensures kept { IfOk result (λ answered. answered.kept ≡ record { call = call; reply = answered.told }) }
+        ensures kept { IfOk result
+            (λ answered. answered.kept ≡ record { call = call; reply = answered.told }) }
     {
         Ok(Answered {
             told: NodeReply::Refused(fault),
@@ -33,7 +34,8 @@ impl Answered {
         committed: bool,
     ) -> Result<Self, AllocError>
         ensures told { IfOk result (λ answered. answered.told ≡ NodeReply.Checked committed) }
-        ensures kept { IfOk result (λ answered. answered.kept ≡ record { call = NodeCall.DepCheck key.now version; reply = answered.told }) }
+        ensures kept { IfOk result (λ answered. answered.kept
+            ≡ record { call = NodeCall.DepCheck key.now version; reply = answered.told }) }
     {
         Ok(Answered {
             told: NodeReply::Checked(committed),

@@ -21,12 +21,18 @@ pub(crate) fn act(
     caller: Caller,
     call: NodeCall,
 ) -> Result<Answered, AllocError>
-    requires stands { HasSolo caller.slot caller.moment (place_under home.now terms.now) counters.old storage.old.store storage.old.outbox }
+    requires stands { HasSolo caller.slot caller.moment
+        (place_under home.now terms.now) counters.old storage.old.store storage.old.outbox }
     requires fits { IsTrue (fits (place_under home.now terms.now) call) }
-    ensures done { IfOk result (λ answered. IsDone caller.slot caller.moment (place_under home.now terms.now) call answered.told counters.old storage.old.store storage.old.outbox counters.new storage.new.store storage.new.outbox) }
-    ensures kept { IfOk result (λ answered. answered.kept ≡ record { call = call; reply = answered.told }) }
-    ensures others { OthersStay caller.slot storage.old.store storage.old.outbox storage.new.store storage.new.outbox }
-    ensures err { OnErr result (IsUnchanged counters.old storage.old.store storage.old.outbox counters.new storage.new.store storage.new.outbox) }
+    ensures done { IfOk result (λ answered. IsDone caller.slot caller.moment
+        (place_under home.now terms.now) call answered.told counters.old storage.old.store
+        storage.old.outbox counters.new storage.new.store storage.new.outbox) }
+    ensures kept { IfOk result
+        (λ answered. answered.kept ≡ record { call = call; reply = answered.told }) }
+    ensures others { OthersStay caller.slot storage.old.store storage.old.outbox storage.new.store
+        storage.new.outbox }
+    ensures err { OnErr result (IsUnchanged counters.old storage.old.store storage.old.outbox
+        counters.new storage.new.store storage.new.outbox) }
 {
     match call {
         NodeCall::Get(key, wanted) => {

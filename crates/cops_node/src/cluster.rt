@@ -60,8 +60,13 @@ impl Cluster0 {
         requires sizes { IsTrue (are_sizes config.now) }
         requires clocks { IsTrue (are_clocks config.now) }
         ensures nodes { IfOk result (λ cluster. cluster ≡ new_nodes config.now) }
-        ensures tenants { IfOk result (λ cluster. (slot : ℕ) (tenant : Tenant) → slice_get config.now.tenants slot ≡ Some tenant → HasTenant (tenant_config config.now tenant) slot cluster) }
-        ensures fresh { IfOk result (λ cluster. (slot : ℕ) (tenant : Tenant) → slice_get config.now.tenants slot ≡ Some tenant → nodes_of (tenant_config config.now tenant) slot cluster ≡ replicate (config.now.data_centres * config.now.shards) (new_node config.now.data_centres)) }
+        ensures tenants { IfOk result (λ cluster.
+            (slot : ℕ) (tenant : Tenant) → slice_get config.now.tenants slot ≡ Some tenant →
+            HasTenant (tenant_config config.now tenant) slot cluster) }
+        ensures fresh { IfOk result (λ cluster.
+            (slot : ℕ) (tenant : Tenant) → slice_get config.now.tenants slot ≡ Some tenant →
+            nodes_of (tenant_config config.now tenant) slot cluster ≡ replicate
+            (config.now.data_centres * config.now.shards) (new_node config.now.data_centres)) }
     {
         let shards = config.shards;
         let mut nodes = Vec::new(alloc);
@@ -93,10 +98,13 @@ impl Cluster0 {
     /// slot is not free; memory can run out only otherwise.
     pub fn admit(&mut self, slot: u64, first_clock: u64, quota: Quota) -> Result<(), RequestError>
         requires { first_clock ≤ last_clock }
-        ensures answer { AnswersUnless (refused_if (list_any (is_taken slot) self.old.nodes) NoSlot) result }
-        ensures ok { OnOk result (AtEach (IsAdmitted slot first_clock quota) self.old.nodes self.new.nodes) }
+        ensures answer { AnswersUnless
+            (refused_if (list_any (is_taken slot) self.old.nodes) NoSlot) result }
+        ensures ok { OnOk result
+            (AtEach (IsAdmitted slot first_clock quota) self.old.nodes self.new.nodes) }
         ensures taken { list_any (is_taken slot) self.old.nodes ≡ true → self.new ≡ self.old }
-        ensures err { OnErr result (list_any (is_taken slot) self.old.nodes ≡ false → AtEach (IsClosed slot) self.old.nodes self.new.nodes) }
+        ensures err { OnErr result (list_any (is_taken slot) self.old.nodes ≡ false →
+            AtEach (IsClosed slot) self.old.nodes self.new.nodes) }
         ensures shape { self.new.shape ≡ self.old.shape }
     {
         if is_taken_at_any(self.nodes.as_slice(), slot) {
@@ -131,7 +139,9 @@ impl Nodes for Cluster0 {
     ) -> Result<NodeReply, AllocError>
         requires { Fits self.old.shape id call }
         ensures answers { IsCall self.old id slot moment call (told_reply result) self.new }
-        ensures ok { IfOk result (λ reply. (config : TenantConfig) → config.shards ≡ self.old.shape.shards → HasTenant config slot self.old → IsTurnOf config id slot moment call reply self.old self.new) }
+        ensures ok { IfOk result (λ reply. (config : TenantConfig) →
+            config.shards ≡ self.old.shape.shards → HasTenant config slot self.old →
+            IsTurnOf config id slot moment call reply self.old self.new) }
         ensures err { OnErr result (self.new ≡ self.old) }
         ensures shape { self.new.shape ≡ self.old.shape }
     {

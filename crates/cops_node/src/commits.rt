@@ -27,16 +27,24 @@ pub(crate) fn keep(
 )
     requires home { IsHome home.now }
     requires slot { caller.slot < store.old.tenants }
-    requires data_centre { entry.version.node / home.now.shape.shards < length counters.old.marks.items }
+    requires data_centre { entry.version.node / home.now.shape.shards
+        < length counters.old.marks.items }
     requires new_version { LacksVersion entry.key entry.version (rows_of caller.slot store.old) }
     requires room { HasRoom caller.slot entry.key store.old }
-    requires unrefused { refusal terms.now.quota (size_of entry) (use_of (rows_of caller.slot store.old)) ≡ None }
-    ensures stands_for { (tracked : List Tracked) → StandsFor (rows_of caller.slot store.old) tracked → NoneLater caller.moment tracked → StandsFor (rows_of caller.slot store.new) (tracked ++ record { record_of = record { entry = entry; at = caller.moment }; removed = false } ∷ []) }
-    ensures others { (other : ℕ) → other ≢ caller.slot → rows_of other store.new ≡ rows_of other store.old }
+    requires unrefused { refusal terms.now.quota (size_of entry)
+        (use_of (rows_of caller.slot store.old)) ≡ None }
+    ensures stands_for { (tracked : List Tracked) →
+        StandsFor (rows_of caller.slot store.old) tracked → NoneLater caller.moment tracked →
+        StandsFor (rows_of caller.slot store.new) (tracked
+        ++ record { record_of = record { entry = entry; at = caller.moment }; removed = false }
+        ∷ []) }
+    ensures others { (other : ℕ) → other ≢ caller.slot →
+        rows_of other store.new ≡ rows_of other store.old }
     ensures tenants { store.new.tenants ≡ store.old.tenants }
     ensures fits { entry.version.clock ≤ last_clock }
     ensures clock { counters.new.clock ≡ max counters.old.clock entry.version.clock }
-    ensures marks { counters.new.marks.items ≡ slice_set counters.old.marks.items (entry.version.node / home.now.shape.shards) entry.version }
+    ensures marks { counters.new.marks.items ≡ slice_set counters.old.marks.items
+        (entry.version.node / home.now.shape.shards) entry.version }
 {
     parts::raise(home, counters, entry.version());
     match store.insert(caller.slot, entry, caller.moment, &terms.quota) {
@@ -56,11 +64,16 @@ pub(crate) fn commit(
     caller: Caller,
     entry: Entry,
 ) -> Result<Answered, AllocError>
-    requires stands { (outbox : Queues) × HasSolo caller.slot caller.moment (place_under home.now terms.now) counters.old store.old outbox }
+    requires stands { (outbox : Queues) × HasSolo caller.slot caller.moment
+        (place_under home.now terms.now) counters.old store.old outbox }
     requires fits { IsTrue (fits (place_under home.now terms.now) (NodeCall.Commit entry)) }
-    ensures done { IfOk result (λ answered. (outbox : Queues) → IsDone caller.slot caller.moment (place_under home.now terms.now) (NodeCall.Commit entry) answered.told counters.old store.old outbox counters.new store.new outbox) }
-    ensures kept { IfOk result (λ answered. answered.kept ≡ record { call = NodeCall.Commit entry; reply = answered.told }) }
-    ensures others { (other : ℕ) → other ≢ caller.slot → rows_of other store.new ≡ rows_of other store.old }
+    ensures done { IfOk result (λ answered. (outbox : Queues) →
+        IsDone caller.slot caller.moment (place_under home.now terms.now) (NodeCall.Commit entry)
+        answered.told counters.old store.old outbox counters.new store.new outbox) }
+    ensures kept { IfOk result (λ answered.
+        answered.kept ≡ record { call = NodeCall.Commit entry; reply = answered.told }) }
+    ensures others { (other : ℕ) → other ≢ caller.slot →
+        rows_of other store.new ≡ rows_of other store.old }
     ensures tenants { store.new.tenants ≡ store.old.tenants }
     ensures counters { OnErr result (counters.new ≡ counters.old) }
     ensures rows { OnErr result (store.new.rows ≡ store.old.rows) }

@@ -59,8 +59,10 @@ impl CountingNode {
         requires shard_exists { id.shard < config.now.shards }
         requires sizes { IsTrue (are_sizes config.now) }
         requires clock { tenant.now.first_clock ≤ last_clock }
-        ensures place { IfOk result (λ node. place_of_counting node ≡ place_of (tenant_config config.now tenant.now) id) }
-        ensures fresh { IfOk result (λ node. RepresentsSolo node (new_node config.now.data_centres)) }
+        ensures place { IfOk result
+            (λ node. place_of_counting node ≡ place_of (tenant_config config.now tenant.now) id) }
+        ensures fresh { IfOk result
+            (λ node. RepresentsSolo node (new_node config.now.data_centres)) }
     {
         let part = parts::fresh(alloc, config.data_centres, parts::terms_for(tenant))?;
         let store = Store::seeded(alloc, 1, Seeds::of_tokens(&[*tenant]))?;
@@ -85,9 +87,11 @@ impl CountingNode {
     /// Fails with `AllocError` if memory runs out; then the node represents what it did.
     pub fn step(&mut self, moment: u64, call: NodeCall) -> Result<NodeReply, AllocError>
         requires { IsTrue (fits (place_of_counting self.old) call) }
-        ensures turn { IfOk result (λ reply. (solo : SoloNode) → RepresentsSolo self.old solo → IsCountedTurn moment call reply self.old solo self.new) }
+        ensures turn { IfOk result (λ reply. (solo : SoloNode) → RepresentsSolo self.old solo →
+            IsCountedTurn moment call reply self.old solo self.new) }
         ensures place { place_of_counting self.new ≡ place_of_counting self.old }
-        ensures err { OnErr result ((solo : SoloNode) → RepresentsSolo self.old solo → RepresentsSolo self.new solo) }
+        ensures err { OnErr result
+            ((solo : SoloNode) → RepresentsSolo self.old solo → RepresentsSolo self.new solo) }
     {
         if self.calls >= self.part.terms.quota.audit {
             return Ok(NodeReply::Refused(Fault::AuditFull));

@@ -26,8 +26,11 @@ fn found(alloc: Global, stored: &Record) -> Result<NodeReply, AllocError>
 #[inline(always)]
 fn latest(alloc: Global, store: &Store, slot: usize, key: &Key) -> Result<Answered, AllocError>
     requires { (tracked : List Tracked) × StandsFor (rows_of slot store.now) tracked }
-    ensures told { IfOk result (λ answered. (tracked : List Tracked) → StandsFor (rows_of slot store.now) tracked → answered.told ≡ reply_latest (latest_record key.now tracked)) }
-    ensures kept { IfOk result (λ answered. answered.kept ≡ record { call = NodeCall.Get key.now Wanted.Latest; reply = answered.told }) }
+    ensures told { IfOk result
+        (λ answered. (tracked : List Tracked) → StandsFor (rows_of slot store.now) tracked →
+        answered.told ≡ reply_latest (latest_record key.now tracked)) }
+    ensures kept { IfOk result (λ answered. answered.kept
+        ≡ record { call = NodeCall.Get key.now Wanted.Latest; reply = answered.told }) }
 {
     match store.latest(slot, key) {
         Some(stored) => {
@@ -54,7 +57,8 @@ fn missing(
     was_here: bool,
 ) -> Result<Answered, AllocError>
     ensures told { IfOk result (λ answered. answered.told ≡ reply_exact now was_here None) }
-    ensures kept { IfOk result (λ answered. answered.kept ≡ record { call = NodeCall.Get key.now (Wanted.Exactly version); reply = answered.told }) }
+    ensures kept { IfOk result (λ answered. answered.kept
+        ≡ record { call = NodeCall.Get key.now (Wanted.Exactly version); reply = answered.told }) }
 {
     if was_here {
         let call = NodeCall::Get(*key, Wanted::Exactly(version));
@@ -80,8 +84,11 @@ fn exactly(
     was_here: bool,
 ) -> Result<Answered, AllocError>
     requires { (tracked : List Tracked) × StandsFor (rows_of caller.slot store.now) tracked }
-    ensures told { IfOk result (λ answered. (tracked : List Tracked) → StandsFor (rows_of caller.slot store.now) tracked → answered.told ≡ reply_exact caller.moment was_here (exact_record key.now version tracked)) }
-    ensures kept { IfOk result (λ answered. answered.kept ≡ record { call = NodeCall.Get key.now (Wanted.Exactly version); reply = answered.told }) }
+    ensures told { IfOk result
+        (λ answered. (tracked : List Tracked) → StandsFor (rows_of caller.slot store.now) tracked →
+        answered.told ≡ reply_exact caller.moment was_here (exact_record key.now version tracked)) }
+    ensures kept { IfOk result (λ answered. answered.kept
+        ≡ record { call = NodeCall.Get key.now (Wanted.Exactly version); reply = answered.told }) }
 {
     match store.exactly(caller.slot, key, version) {
         Some(stored) => {
@@ -109,8 +116,12 @@ pub(crate) fn get(
 ) -> Result<Answered, AllocError>
     requires home { IsHome home.now }
     requires stored { (tracked : List Tracked) × StandsFor (rows_of caller.slot store.now) tracked }
-    ensures told { IfOk result (λ answered. (solo : SoloNode) → StandsFor (rows_of caller.slot store.now) solo.recs → AreMarks home.now counters.now.marks.items solo.recs → solo.moment ≡ caller.moment → answered.told ≡ reply_get key.now wanted solo) }
-    ensures kept { IfOk result (λ answered. answered.kept ≡ record { call = NodeCall.Get key.now wanted; reply = answered.told }) }
+    ensures told { IfOk result
+        (λ answered. (solo : SoloNode) → StandsFor (rows_of caller.slot store.now) solo.recs →
+        AreMarks home.now counters.now.marks.items solo.recs → solo.moment ≡ caller.moment →
+        answered.told ≡ reply_get key.now wanted solo) }
+    ensures kept { IfOk result (λ answered.
+        answered.kept ≡ record { call = NodeCall.Get key.now wanted; reply = answered.told }) }
 {
     match wanted {
         Wanted::Latest => latest(alloc, store, caller.slot, key),

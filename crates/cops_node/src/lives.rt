@@ -36,7 +36,8 @@ pub(crate) fn admit_at_all(
 ) -> Result<(), AllocError>
     requires clock { first_clock ≤ last_clock }
     requires vacant { AllByRecursion (λ node. is_taken slot node ≡ false) nodes.old.items }
-    ensures ok { OnOk result (AtEach (IsAdmitted slot first_clock quota) nodes.old.items nodes.new.items) }
+    ensures ok { OnOk result
+        (AtEach (IsAdmitted slot first_clock quota) nodes.old.items nodes.new.items) }
     ensures err { OnErr result (AtEach (IsClosed slot) nodes.old.items nodes.new.items) }
 {
     for number in 0..nodes.len() {

@@ -53,7 +53,8 @@ impl Node {
         requires shard_exists { id.shard < config.now.shards }
         requires sizes { IsTrue (are_sizes config.now) }
         requires clocks { IsTrue (are_clocks config.now) }
-        ensures { IfOk result (λ node. node ≡ record { home = home_of config.now id; terms = opening_terms config.now; audit = no_calls (length config.now.tenants) }) }
+        ensures { IfOk result (λ node. node
+            ≡ record { home = home_of config.now id; terms = opening_terms config.now; audit = no_calls (length config.now.tenants) }) }
     {
         let parts = parts::fresh_parts(alloc, config)?;
         let tenants = parts.len();
@@ -87,7 +88,8 @@ impl Node {
     /// Returns the number of calls in the trail of a slot.
     pub fn audit_len(&self, slot: u64) -> u64
         ensures calls { result ≡ length (trail_of slot self.now.audit) }
-        ensures solo { (place : Place) → place_at slot self.now ≡ Some place → result ≡ length (solo_of slot place self.now).trail }
+        ensures solo { (place : Place) → place_at slot self.now ≡ Some place →
+            result ≡ length (solo_of slot place self.now).trail }
     {
         self.audit.len(slot as usize)
     }
@@ -95,7 +97,8 @@ impl Node {
     /// Returns the call at an index of the trail of a slot.
     pub fn audit(&self, slot: u64, place: u64) -> Option<&AuditRow>
         ensures call { option_copied result ≡ slice_get (trail_of slot self.now.audit) place }
-        ensures solo { (own : Place) → place_at slot self.now ≡ Some own → option_copied result ≡ slice_get (solo_of slot own self.now).trail place }
+        ensures solo { (own : Place) → place_at slot self.now ≡ Some own →
+            option_copied result ≡ slice_get (solo_of slot own self.now).trail place }
         ensures vacant { place_at slot self.now ≡ None → result ≡ None }
     {
         self.audit.get(slot as usize, place)
@@ -131,10 +134,13 @@ impl Node {
     pub fn admit(&mut self, slot: u64, first_clock: u64, quota: Quota) -> Result<(), RequestError>
         requires { first_clock ≤ last_clock }
         ensures answer { AnswersUnless (admit_refusal slot self.old) result }
-        ensures taken { IsTrue (is_taken slot self.old) → result ≡ Err (RequestError.Refused Fault.NoSlot) }
-        ensures place { OnOk result (place_at slot self.new ≡ Some (place_for self.old.home first_clock quota)) }
+        ensures taken { IsTrue (is_taken slot self.old) →
+            result ≡ Err (RequestError.Refused Fault.NoSlot) }
+        ensures place { OnOk result
+            (place_at slot self.new ≡ Some (place_for self.old.home first_clock quota)) }
         ensures empty { OnOk result (trail_of slot self.new.audit ≡ []) }
-        ensures slots { OnOk result (length self.new.terms ≡ max (length self.old.terms) (slot + 1)) }
+        ensures slots { OnOk result
+            (length self.new.terms ≡ max (length self.old.terms) (slot + 1)) }
         ensures others { (other : ℕ) → other ≢ slot → IsSlotKept other self.old self.new }
         ensures home { self.new.home ≡ self.old.home }
         ensures err { OnErr result (self.new ≡ self.old) }
@@ -155,9 +161,11 @@ impl Node {
     ) -> Result<(), AllocError>
         requires clock { first_clock ≤ last_clock }
         requires free { is_taken slot self.old ≡ false }
-        ensures place { OnOk result (place_at slot self.new ≡ Some (place_for self.old.home first_clock quota)) }
+        ensures place { OnOk result
+            (place_at slot self.new ≡ Some (place_for self.old.home first_clock quota)) }
         ensures empty { OnOk result (trail_of slot self.new.audit ≡ []) }
-        ensures slots { OnOk result (length self.new.terms ≡ max (length self.old.terms) (slot + 1)) }
+        ensures slots { OnOk result
+            (length self.new.terms ≡ max (length self.old.terms) (slot + 1)) }
         ensures others { (other : ℕ) → other ≢ slot → IsSlotKept other self.old self.new }
         ensures home { self.new.home ≡ self.old.home }
         ensures err { OnErr result (self.new ≡ self.old) }
@@ -201,12 +209,18 @@ impl Node {
     /// Fails with `AllocError` if memory runs out; then nothing changed.
     pub fn step(&mut self, slot: u64, moment: u64, call: NodeCall) -> Result<NodeReply, AllocError>
         requires { IsTrue (fits (place_in self.old.home.shape self.old.home.id) call) }
-        ensures turn { IfOk result (λ reply. (place : Place) → place_at slot self.old ≡ Some place → IsSoloTurn slot moment call reply place self.old self.new) }
-        ensures noted { IfOk result (λ reply. IsSome (place_at slot self.old) → JoinsTrail slot moment call reply self.old self.new) }
-        ensures full { (place : Place) → place_at slot self.old ≡ Some place → has_audit_room slot place self.old ≡ false → result ≡ Ok (NodeReply.Refused Fault.AuditFull) }
-        ensures vacant { place_at slot self.old ≡ None → result ≡ Ok (NodeReply.Refused Fault.UnknownTenant) }
+        ensures turn { IfOk result (λ reply. (place : Place) → place_at slot self.old ≡ Some place →
+            IsSoloTurn slot moment call reply place self.old self.new) }
+        ensures noted { IfOk result (λ reply.
+            IsSome (place_at slot self.old) → JoinsTrail slot moment call reply self.old self.new) }
+        ensures full { (place : Place) → place_at slot self.old ≡ Some place →
+            has_audit_room slot place self.old ≡ false →
+            result ≡ Ok (NodeReply.Refused Fault.AuditFull) }
+        ensures vacant { place_at slot self.old ≡ None →
+            result ≡ Ok (NodeReply.Refused Fault.UnknownTenant) }
         ensures unchanged { place_at slot self.old ≡ None → self.new ≡ self.old }
-        ensures others { (other : ℕ) → other ≢ slot → trail_of other self.new.audit ≡ trail_of other self.old.audit }
+        ensures others { (other : ℕ) → other ≢ slot →
+            trail_of other self.new.audit ≡ trail_of other self.old.audit }
         ensures home { self.new.home ≡ self.old.home }
         ensures terms { self.new.terms ≡ self.old.terms }
         ensures err { OnErr result (self.new ≡ self.old) }

@@ -86,8 +86,10 @@ fn number_at(pages: &Slab<Page>, at: usize) -> u64
 // Reserves memory for one more call in a page.
 fn widen(pages: &mut Slab<Page>, at: usize) -> Result<(), AllocError>
     requires { IsSome (page_at pages.old.slots at) }
-    ensures ok { OnOk result (length (calls_of_page (page_at pages.old.slots at)) < SIZE → 0 < spare_in (page_at pages.new.slots at)) }
-    ensures calls { IsRefilled pages.old.slots pages.new.slots at (calls_of_page (page_at pages.old.slots at)) }
+    ensures ok { OnOk result (length (calls_of_page (page_at pages.old.slots at)) < SIZE →
+        0 < spare_in (page_at pages.new.slots at)) }
+    ensures calls { IsRefilled pages.old.slots pages.new.slots at
+        (calls_of_page (page_at pages.old.slots at)) }
 {
     let page = &mut pages[at];
     page.rows.reserve(1)
@@ -96,7 +98,8 @@ fn widen(pages: &mut Slab<Page>, at: usize) -> Result<(), AllocError>
 // Appends a call to a page, into reserved memory.
 fn append(pages: &mut Slab<Page>, at: usize, row: AuditRow)
     requires { 0 < spare_in (page_at pages.old.slots at) }
-    ensures { IsRefilled pages.old.slots pages.new.slots at (calls_of_page (page_at pages.old.slots at) ++ row ∷ []) }
+    ensures { IsRefilled pages.old.slots pages.new.slots at
+        (calls_of_page (page_at pages.old.slots at) ++ row ∷ []) }
 {
     let page = &mut pages[at];
     page.rows.push_reserved(row);
@@ -105,8 +108,10 @@ fn append(pages: &mut Slab<Page>, at: usize, row: AuditRow)
 // Returns the page to which the page behind the last one skips. The distances are such that a
 // search takes steps in the logarithm of the number of pages.
 fn skip_behind(pages: &Slab<Page>, list: &PageList) -> usize
-    requires { (slot rows : ℕ) × IsPageChain pages.now.slots slot rows list.now.pages list.now.last × AreNumbered pages.now.slots slot }
-    ensures { (slot rows : ℕ) → IsPageChain pages.now.slots slot rows list.now.pages list.now.last → IsEarlier pages.now.slots slot list.now.pages result }
+    requires { (slot rows : ℕ) × IsPageChain pages.now.slots slot rows list.now.pages list.now.last
+        × AreNumbered pages.now.slots slot }
+    ensures { (slot rows : ℕ) → IsPageChain pages.now.slots slot rows list.now.pages list.now.last →
+        IsEarlier pages.now.slots slot list.now.pages result }
 {
     if list.pages == 0 {
         return list.last;
@@ -169,8 +174,11 @@ fn add_page(
 
 // Returns a page before the one at `at`, and not before the one of this number.
 fn earlier(pages: &Slab<Page>, at: usize, number: u64) -> usize
-    requires { (slot n rows : ℕ) × IsPageChain pages.now.slots slot rows (suc n) at × AreNumbered pages.now.slots slot × (number < n) }
-    ensures { (slot n rows : ℕ) → IsPageChain pages.now.slots slot rows (suc n) at → AreNumbered pages.now.slots slot → number < n → (m rows' : ℕ) × IsPageChain pages.now.slots slot rows' (suc m) result × (number ≤ m) × (m < n) }
+    requires { (slot n rows : ℕ) × IsPageChain pages.now.slots slot rows (suc n) at
+        × AreNumbered pages.now.slots slot × (number < n) }
+    ensures { (slot n rows : ℕ) → IsPageChain pages.now.slots slot rows (suc n) at →
+        AreNumbered pages.now.slots slot → number < n → (m rows' : ℕ)
+        × IsPageChain pages.now.slots slot rows' (suc m) result × (number ≤ m) × (m < n) }
 {
     let page = &pages[at];
     let skipped = &pages[page.skip];
@@ -183,8 +191,11 @@ fn earlier(pages: &Slab<Page>, at: usize, number: u64) -> usize
 
 // Returns the place of the page of this number, among those of the slot up to the one at `last`.
 fn find(pages: &Slab<Page>, last: usize, number: u64) -> usize
-    requires { (slot n rows : ℕ) × IsPageChain pages.now.slots slot rows (suc n) last × AreNumbered pages.now.slots slot × (number ≤ n) }
-    ensures { (slot n rows : ℕ) → IsPageChain pages.now.slots slot rows (suc n) last → AreNumbered pages.now.slots slot → number ≤ n → IsPageOf pages.now.slots slot number result }
+    requires { (slot n rows : ℕ) × IsPageChain pages.now.slots slot rows (suc n) last
+        × AreNumbered pages.now.slots slot × (number ≤ n) }
+    ensures { (slot n rows : ℕ) → IsPageChain pages.now.slots slot rows (suc n) last →
+        AreNumbered pages.now.slots slot → number ≤ n →
+        IsPageOf pages.now.slots slot number result }
 {
     let mut at = last;
     while number_at(pages, at) > number {
@@ -196,7 +207,8 @@ fn find(pages: &Slab<Page>, last: usize, number: u64) -> usize
 // Removes the pages of a list from the table.
 fn free(pages: &mut Slab<Page>, list: &mut PageList)
     requires { (slot : ℕ) × IsPageList pages.old.slots slot list.old }
-    ensures turn { (slot : ℕ) → IsPageList pages.old.slots slot list.old → IsListTurn pages.old.slots pages.new.slots slot list.new }
+    ensures turn { (slot : ℕ) → IsPageList pages.old.slots slot list.old →
+        IsListTurn pages.old.slots pages.new.slots slot list.new }
     ensures none { list.new.pages ≡ 0 }
 {
     for _page in 0..list.pages {

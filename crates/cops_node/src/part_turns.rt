@@ -20,15 +20,21 @@ pub(crate) fn turn(
     call: NodeCall,
 ) -> Result<NodeReply, AllocError>
     requires slot { caller.slot < length audit.old.trails }
-    requires stands { StandsForTrail caller.slot home.now part.old (trail_of caller.slot audit.old.trails) storage.old.store storage.old.outbox }
+    requires stands { StandsForTrail caller.slot home.now part.old
+        (trail_of caller.slot audit.old.trails) storage.old.store storage.old.outbox }
     requires fits { IsTrue (fits (place_under home.now part.old.terms) call) }
-    ensures turn { IfOk result (λ reply. IsPartTurn home.now part.old.terms caller.moment call reply (trail_of caller.slot audit.old.trails) (trail_of caller.slot audit.new.trails)) }
-    ensures noted { IfOk result (λ reply. JoinsAudit caller.slot caller.moment call reply audit.old.trails audit.new.trails) }
-    ensures stands { StandsForTrail caller.slot home.now part.new (trail_of caller.slot audit.new.trails) storage.new.store storage.new.outbox }
-    ensures others { OthersStay caller.slot storage.old.store storage.old.outbox storage.new.store storage.new.outbox }
+    ensures turn { IfOk result (λ reply. IsPartTurn home.now part.old.terms caller.moment call reply
+        (trail_of caller.slot audit.old.trails) (trail_of caller.slot audit.new.trails)) }
+    ensures noted { IfOk result (λ reply.
+        JoinsAudit caller.slot caller.moment call reply audit.old.trails audit.new.trails) }
+    ensures stands { StandsForTrail caller.slot home.now part.new
+        (trail_of caller.slot audit.new.trails) storage.new.store storage.new.outbox }
+    ensures others { OthersStay caller.slot storage.old.store storage.old.outbox storage.new.store
+        storage.new.outbox }
     ensures terms { part.new.terms ≡ part.old.terms }
     ensures err { OnErr result (audit.new.trails ≡ audit.old.trails) }
-    ensures room { OnErr result (HasPartRoom home.now part.old (trail_of caller.slot audit.old.trails)) }
+    ensures room { OnErr result
+        (HasPartRoom home.now part.old (trail_of caller.slot audit.old.trails)) }
 {
     if parts::is_audit_full(audit, caller.slot, part) {
         return Ok(NodeReply::Refused(Fault::AuditFull));

@@ -70,7 +70,8 @@ pub(crate) fn terms_for(tenant: &Tenant) -> Terms
 
 // Returns the parts of all tenants before any call.
 pub(crate) fn fresh_parts(alloc: Global, config: &Config) -> Result<Vec<Option<Part>>, AllocError>
-    ensures fresh { IfOk result (λ parts. AllByRecursion (λ p. IfSome p (IsFresh config.now.data_centres)) parts.items) }
+    ensures fresh { IfOk result
+        (λ parts. AllByRecursion (λ p. IfSome p (IsFresh config.now.data_centres)) parts.items) }
     ensures terms { IfOk result (λ parts. terms_in parts.items ≡ opening_terms config.now) }
 {
     let mut parts = Vec::new(alloc);
@@ -139,7 +140,8 @@ pub(crate) fn is_of(part: &Part, tenant: &Tenant) -> bool
 
 // Returns `true` if the audit has no room for another call of the slot.
 pub(crate) fn is_audit_full(audit: &AuditPages, slot: usize, part: &Part) -> bool
-    ensures full { result ≡ not (nat_lt (length (trail_of slot audit.now.trails)) part.now.terms.quota.audit) }
+    ensures full { result
+        ≡ not (nat_lt (length (trail_of slot audit.now.trails)) part.now.terms.quota.audit) }
     ensures countable { result ≡ false → length (trail_of slot audit.now.trails) + 1 < 2 ^ 64 }
 {
     let quota = part.terms.quota;
@@ -178,7 +180,8 @@ fn mark_of(home: &Home, counters: &Counters, node: u64) -> Version
 #[inline(always)]
 pub(crate) fn was_committed(home: &Home, counters: &Counters, version: Version) -> bool
     requires { IsHome home.now }
-    ensures { (recs : List Tracked) → AreMarks home.now counters.now.marks.items recs → result ≡ version_le version (mark version.node recs) }
+    ensures { (recs : List Tracked) → AreMarks home.now counters.now.marks.items recs →
+        result ≡ version_le version (mark version.node recs) }
 {
     version <= mark_of(home, counters, version.node())
 }
@@ -187,7 +190,8 @@ pub(crate) fn was_committed(home: &Home, counters: &Counters, version: Version) 
 #[inline(always)]
 pub(crate) fn mark_for(home: &Home, counters: &Counters, version: Version) -> Version
     requires { IsHome home.now }
-    ensures { (recs : List Tracked) → AreMarks home.now counters.now.marks.items recs → result ≡ mark version.node recs }
+    ensures { (recs : List Tracked) → AreMarks home.now counters.now.marks.items recs →
+        result ≡ mark version.node recs }
 {
     mark_of(home, counters, version.node())
 }
@@ -196,7 +200,8 @@ pub(crate) fn mark_for(home: &Home, counters: &Counters, version: Version) -> Ve
 #[inline(always)]
 pub(crate) fn own_mark(home: &Home, counters: &Counters) -> Version
     requires { IsHome home.now }
-    ensures { (recs : List Tracked) → AreMarks home.now counters.now.marks.items recs → result ≡ mark ((node_number home.now.shape.shards home.now.id)) recs }
+    ensures { (recs : List Tracked) → AreMarks home.now counters.now.marks.items recs →
+        result ≡ mark ((node_number home.now.shape.shards home.now.id)) recs }
 {
     mark_of(home, counters, own_number(home))
 }
@@ -206,7 +211,8 @@ pub(crate) fn raise(home: &Home, counters: &mut Counters, version: Version)
     requires home { IsHome home.now }
     requires data_centre { version.node / home.now.shape.shards < length counters.old.marks.items }
     ensures clock { counters.new.clock ≡ max counters.old.clock version.clock }
-    ensures marks { counters.new.marks.items ≡ slice_set counters.old.marks.items (version.node / home.now.shape.shards) version }
+    ensures marks { counters.new.marks.items
+        ≡ slice_set counters.old.marks.items (version.node / home.now.shape.shards) version }
     ensures fits { version.clock ≤ last_clock }
 {
     counters.clock = counters.clock.max(version.clock());

@@ -35,7 +35,8 @@ pub(crate) struct PutParts {
 fn next_version(home: &Home, counters: &Counters, deps: &Deps) -> Result<Version, Fault>
     requires home { IsHome home.now }
     requires clock_fits { counters.now.clock ≤ last_clock }
-    ensures { result ≡ ok_or (version_after counters.now.clock (greatest_clock_of deps.now) (node_number home.now.shape.shards home.now.id)) Fault.ClockFull }
+    ensures { result ≡ ok_or (version_after counters.now.clock (greatest_clock_of deps.now)
+        (node_number home.now.shape.shards home.now.id)) Fault.ClockFull }
 {
     let node = parts::own_number(home);
     let deps_clock = deps.greatest_clock();
@@ -52,12 +53,24 @@ fn version_for(
     slot: usize,
     put: &PutParts,
 ) -> Result<Version, Fault>
-    requires { (solo : SoloNode) × StandsAt slot (place_under home.now terms.now) counters.now storage.now.store storage.now.outbox solo }
-    ensures version { IfOk result (λ version. (solo : SoloNode) → StandsAt slot (place_under home.now terms.now) counters.now storage.now.store storage.now.outbox solo → version_of_put (place_under home.now terms.now) solo put.now.deps ≡ Some version) }
-    ensures unrefused { IfOk result (λ version. (solo : SoloNode) → StandsAt slot (place_under home.now terms.now) counters.now storage.now.store storage.now.outbox solo → node_put_refusal (place_under home.now terms.now) solo put.now.key put.now.value ≡ None) }
-    ensures room { IfOk result (λ version. refusal terms.now.quota (length put.now.key + length put.now.value) (use_of (rows_of slot storage.now.store)) ≡ None) }
-    ensures sendable { OnOk result (is_full slot terms.now.quota.outbox storage.now.outbox ≡ false) }
-    ensures refused { IfErr result (λ fault. (solo : SoloNode) → StandsAt slot (place_under home.now terms.now) counters.now storage.now.store storage.now.outbox solo → (near : List Pair) → put_turn (place_under home.now terms.now) solo put.now.key put.now.value put.now.deps near ≡ unchanged (NodeReply.Refused fault) solo) }
+    requires { (solo : SoloNode) × StandsAt slot
+        (place_under home.now terms.now) counters.now storage.now.store storage.now.outbox solo }
+    ensures version { IfOk result (λ version. (solo : SoloNode) → StandsAt slot
+        (place_under home.now terms.now) counters.now storage.now.store storage.now.outbox solo →
+        version_of_put (place_under home.now terms.now) solo put.now.deps ≡ Some version) }
+    ensures unrefused { IfOk result (λ version. (solo : SoloNode) → StandsAt slot
+        (place_under home.now terms.now) counters.now storage.now.store storage.now.outbox solo →
+        node_put_refusal (place_under home.now terms.now) solo put.now.key put.now.value ≡ None) }
+    ensures room { IfOk result (λ version. refusal terms.now.quota
+        (length put.now.key + length put.now.value) (use_of (rows_of slot storage.now.store))
+        ≡ None) }
+    ensures sendable { OnOk result
+        (is_full slot terms.now.quota.outbox storage.now.outbox ≡ false) }
+    ensures refused { IfErr result (λ fault. (solo : SoloNode) → StandsAt slot
+        (place_under home.now terms.now) counters.now storage.now.store storage.now.outbox solo →
+        (near : List Pair) →
+        put_turn (place_under home.now terms.now) solo put.now.key put.now.value put.now.deps near
+        ≡ unchanged (NodeReply.Refused fault) solo) }
 {
     let version = next_version(home, counters, &put.deps)?;
     if let Some(fault) = storage
@@ -76,7 +89,8 @@ fn version_for(
 #[inline(never)]
 fn refuse(alloc: Global, put: PutParts, fault: Fault) -> Result<Answered, AllocError>
     ensures told { IfOk result (λ answered. answered.told ≡ NodeReply.Refused fault) }
-    ensures kept { IfOk result (λ answered. answered.kept ≡ record { call = NodeCall.Put put.key put.value put.deps put.near; reply = answered.told }) }
+    ensures kept { IfOk result (λ answered. answered.kept
+        ≡ record { call = NodeCall.Put put.key put.value put.deps put.near; reply = answered.told }) }
 {
     let call = NodeCall::Put(put.key, put.value, put.deps, put.near);
     Answered::refused(alloc, call, fault)
@@ -90,7 +104,8 @@ fn entry_of(
     version: Version,
     prev: Version,
 ) -> Result<Entry, AllocError>
-    ensures { IfOk result (λ entry. entry ≡ record { key = put.key; version = version; value = put.value; deps = put.deps; near = put.near; prev = prev }) }
+    ensures { IfOk result (λ entry. entry
+        ≡ record { key = put.key; version = version; value = put.value; deps = put.deps; near = put.near; prev = prev }) }
 {
     let parts = EntryParts {
         key: put.key,
@@ -114,11 +129,18 @@ pub(crate) fn put(
     caller: Caller,
     put: PutParts,
 ) -> Result<Answered, AllocError>
-    requires { HasSolo caller.slot caller.moment (place_under home.now terms.now) counters.old storage.old.store storage.old.outbox }
-    ensures done { IfOk result (λ answered. IsDone caller.slot caller.moment (place_under home.now terms.now) (NodeCall.Put put.key put.value put.deps put.near) answered.told counters.old storage.old.store storage.old.outbox counters.new storage.new.store storage.new.outbox) }
-    ensures kept { IfOk result (λ answered. answered.kept ≡ record { call = NodeCall.Put put.key put.value put.deps put.near; reply = answered.told }) }
-    ensures others { OthersStay caller.slot storage.old.store storage.old.outbox storage.new.store storage.new.outbox }
-    ensures err { OnErr result (IsUnchanged counters.old storage.old.store storage.old.outbox counters.new storage.new.store storage.new.outbox) }
+    requires { HasSolo caller.slot caller.moment
+        (place_under home.now terms.now) counters.old storage.old.store storage.old.outbox }
+    ensures done { IfOk result
+        (λ answered. IsDone caller.slot caller.moment (place_under home.now terms.now)
+        (NodeCall.Put put.key put.value put.deps put.near) answered.told counters.old
+        storage.old.store storage.old.outbox counters.new storage.new.store storage.new.outbox) }
+    ensures kept { IfOk result (λ answered. answered.kept
+        ≡ record { call = NodeCall.Put put.key put.value put.deps put.near; reply = answered.told }) }
+    ensures others { OthersStay caller.slot storage.old.store storage.old.outbox storage.new.store
+        storage.new.outbox }
+    ensures err { OnErr result (IsUnchanged counters.old storage.old.store storage.old.outbox
+        counters.new storage.new.store storage.new.outbox) }
 {
     let version = match version_for(home, terms, counters, storage, caller.slot, &put) {
         Ok(version) => version,

@@ -21,8 +21,10 @@ pub(crate) fn pull(
 ) -> Result<Answered, AllocError>
     requires slot { slot < outbox.now.tenants }
     requires dc { dc < length outbox.now.queues }
-    ensures told { IfOk result (λ answered. answered.told ≡ reply_pull (front (queue_of slot dc outbox.now))) }
-    ensures kept { IfOk result (λ answered. answered.kept ≡ record { call = NodeCall.Pull dc; reply = answered.told }) }
+    ensures told { IfOk result
+        (λ answered. answered.told ≡ reply_pull (front (queue_of slot dc outbox.now))) }
+    ensures kept { IfOk result
+        (λ answered. answered.kept ≡ record { call = NodeCall.Pull dc; reply = answered.told }) }
 {
     match outbox.front_of(slot, dc as usize) {
         Some(entry) => Ok(Answered {

@@ -74,7 +74,8 @@ const _: () = prove!(size_of::<AuditRow>() == 40);
 
 // Returns the put of this entry.
 fn put_of(alloc: Global, entry: &Entry) -> Result<NodeCall, AllocError>
-    ensures { IfOk result (λ call. call ≡ NodeCall.Put entry.now.key entry.now.value entry.now.deps entry.now.near) }
+    ensures { IfOk result
+        (λ call. call ≡ NodeCall.Put entry.now.key entry.now.value entry.now.deps entry.now.near) }
 {
     Ok(NodeCall::Put(
         entry.key(),
@@ -94,7 +95,8 @@ fn found_of(alloc: Global, entry: &Entry) -> Result<NodeReply, AllocError>
 impl PackedExchange {
     // Packs the put of an entry, which got the entry's version.
     pub(crate) fn stored(entry: Entry) -> Self
-        ensures { result ≡ record { call = NodeCall.Put entry.key entry.value entry.deps entry.near; reply = NodeReply.Stored entry.version } }
+        ensures { result
+            ≡ record { call = NodeCall.Put entry.key entry.value entry.deps entry.near; reply = NodeReply.Stored entry.version } }
     {
         PackedExchange {
             packing: Packing::PutStored(entry),
@@ -103,7 +105,8 @@ impl PackedExchange {
 
     // Packs a get of the greatest version of a key, which found the entry.
     pub(crate) fn found_latest(entry: Entry) -> Self
-        ensures { result ≡ record { call = NodeCall.Get entry.key Wanted.Latest; reply = NodeReply.Found (found_in entry) } }
+        ensures { result
+            ≡ record { call = NodeCall.Get entry.key Wanted.Latest; reply = NodeReply.Found (found_in entry) } }
     {
         PackedExchange {
             packing: Packing::LatestFound(entry),
@@ -112,7 +115,8 @@ impl PackedExchange {
 
     // Packs a get of the entry's version, which found the entry.
     pub(crate) fn found_exactly(entry: Entry) -> Self
-        ensures { result ≡ record { call = NodeCall.Get entry.key (Wanted.Exactly entry.version); reply = NodeReply.Found (found_in entry) } }
+        ensures { result
+            ≡ record { call = NodeCall.Get entry.key (Wanted.Exactly entry.version); reply = NodeReply.Found (found_in entry) } }
     {
         PackedExchange {
             packing: Packing::ExactFound(entry),
@@ -121,7 +125,8 @@ impl PackedExchange {
 
     // Packs a get of a key without a value.
     pub(crate) fn absent(alloc: Global, key: &Key) -> Result<Self, AllocError>
-        ensures { IfOk result (λ packed. packed ≡ record { call = NodeCall.Get key.now Wanted.Latest; reply = NodeReply.Absent }) }
+        ensures { IfOk result (λ packed. packed
+            ≡ record { call = NodeCall.Get key.now Wanted.Latest; reply = NodeReply.Absent }) }
     {
         match ShortKey::of(key) {
             Some(short) => Ok(PackedExchange {
@@ -137,7 +142,8 @@ impl PackedExchange {
 
     // Packs a get of a version that has not come.
     pub(crate) fn not_yet(alloc: Global, key: &Key, version: Version) -> Result<Self, AllocError>
-        ensures { IfOk result (λ packed. packed ≡ record { call = NodeCall.Get key.now (Wanted.Exactly version); reply = NodeReply.NotYet }) }
+        ensures { IfOk result (λ packed. packed
+            ≡ record { call = NodeCall.Get key.now (Wanted.Exactly version); reply = NodeReply.NotYet }) }
     {
         match ShortKey::of(key) {
             Some(short) => Ok(PackedExchange {
@@ -158,7 +164,8 @@ impl PackedExchange {
         version: Version,
         committed: bool,
     ) -> Result<Self, AllocError>
-        ensures { IfOk result (λ packed. packed ≡ record { call = NodeCall.DepCheck key.now version; reply = NodeReply.Checked committed }) }
+        ensures { IfOk result (λ packed. packed
+            ≡ record { call = NodeCall.DepCheck key.now version; reply = NodeReply.Checked committed }) }
     {
         match ShortKey::of(key) {
             Some(short) => Ok(PackedExchange {
@@ -214,7 +221,8 @@ impl PackedExchange {
 
     // Packs a commit that came before that of the preceding entry.
     pub(crate) fn out_of_order(entry: Entry, mark: Version) -> Self
-        ensures { result ≡ record { call = NodeCall.Commit entry; reply = NodeReply.OutOfOrder mark } }
+        ensures { result
+            ≡ record { call = NodeCall.Commit entry; reply = NodeReply.OutOfOrder mark } }
     {
         PackedExchange {
             packing: Packing::EntryOutOfOrder(entry, mark),
@@ -318,7 +326,8 @@ impl PackedExchange {
 impl AuditRow {
     // Returns the row of a call at a timestamp.
     pub(crate) fn new(moment: u64, exchange: PackedExchange) -> Self
-        ensures { result ≡ record { moment = moment; call = exchange.call; reply = exchange.reply } }
+        ensures { result
+            ≡ record { moment = moment; call = exchange.call; reply = exchange.reply } }
     {
         AuditRow { moment, exchange }
     }

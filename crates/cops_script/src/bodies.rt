@@ -36,11 +36,14 @@ pub trait Body<R> {
         line: &[u8],
         out: &mut Vec<u8>,
     ) -> Result<(), Stop<Self::Refusal>>
-        ensures ok { OnOk result (Answers ((rules.lines self.now).answers state.old line.now) state.new out.old.items out.new.items) }
-        ensures err { IfErr result (λ stop. IfRefused stop ((rules.lines self.now).refuses state.old line.now)) };
+        ensures ok { OnOk result (Answers ((rules.lines self.now).answers state.old line.now)
+            state.new out.old.items out.new.items) }
+        ensures err { IfErr result
+            (λ stop. IfRefused stop ((rules.lines self.now).refuses state.old line.now)) };
 
     /// Handles the end of the input, whose answer is empty.
     fn end(&self, state: &R) -> Result<(), Stop<Self::Refusal>>
         ensures ok { OnOk result ((rules.lines self.now).ends state.now [] state.now) }
-        ensures err { IfErr result (λ stop. IfRefused stop ((rules.lines self.now).refuses_end state.now)) };
+        ensures err { IfErr result
+            (λ stop. IfRefused stop ((rules.lines self.now).refuses_end state.now)) };
 }

@@ -42,9 +42,13 @@ fn read_line<B: Body<R>, R>(
     head: &mut HeadSoFar,
     line: &[u8],
 ) -> Result<Option<R>, Stop<B::Refusal>>
-    ensures more { IfOk result (λ begun. IfNone begun (HeadContinues head.old.reader head.old.lines line.now head.new.reader head.new.lines)) }
-    ensures begun { IfOk result (λ begun. IfSome begun (λ state. (config : Setup) × (front_with head.old.reader line.now ≡ Some (Begun config)) × B.rules.starts body.now config state)) }
-    ensures err { IfErr result (λ stop. IfRefused stop (head_refuses B.rules body.now head.old line.now)) }
+    ensures more { IfOk result (λ begun. IfNone begun
+        (HeadContinues head.old.reader head.old.lines line.now head.new.reader head.new.lines)) }
+    ensures begun { IfOk result (λ begun. IfSome begun
+        (λ state. (config : Setup) × (front_with head.old.reader line.now ≡ Some (Begun config))
+        × B.rules.starts body.now config state)) }
+    ensures err { IfErr result
+        (λ stop. IfRefused stop (head_refuses B.rules body.now head.old line.now)) }
 {
     match read_head(alloc, head, line) {
         Ok(None) => Ok(None),
@@ -69,8 +73,10 @@ fn read_head_line<B: Body<R>, R: Drop>(
     line: &[u8],
 ) -> Result<(), Stop<B::Refusal>>
     requires { IsInHead script.old }
-    ensures ok { OnOk result ((rules_in B.rules body.now).answers script.old line.now [] script.new) }
-    ensures err { IfErr result (λ stop. IfRefused stop ((rules_in B.rules body.now).refuses script.old line.now)) }
+    ensures ok { OnOk result
+        ((rules_in B.rules body.now).answers script.old line.now [] script.new) }
+    ensures err { IfErr result
+        (λ stop. IfRefused stop ((rules_in B.rules body.now).refuses script.old line.now)) }
 {
     match script {
         Script::Head(head) => {

@@ -66,11 +66,13 @@ pub fn read_config<R: Read>(
     alloc: Global,
     source: &mut Source<R>,
 ) -> Result<Config, RunFault<BadConfig>>
-    ensures config { IfOk result (λ config. IfSome (R.remaining (source_reader source.old)) (λ bytes.
+    ensures config { IfOk result
+        (λ config. IfSome (R.remaining (source_reader source.old)) (λ bytes.
         (lines : List (List ℕ)) × (head_of (lines_of bytes) ≡ Whole config lines))) }
     ensures good { IfOk result (λ config. IsTrue (is_good config)) }
     ensures bad_head { IfErr result (λ fault. IfRunRefused fault (λ bad.
-        IfSome (R.remaining (source_reader source.old)) (λ bytes. head_of (lines_of bytes) ≡ BadAt bad.line))) }
+        IfSome (R.remaining (source_reader source.old))
+        (λ bytes. head_of (lines_of bytes) ≡ BadAt bad.line))) }
 
     // The reader failed in this call, or the turns are used up. Nothing is written.
     ensures read_fault { IsErrOf result RunFault.ReadFault →

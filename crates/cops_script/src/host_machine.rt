@@ -13,7 +13,9 @@ use cops_types::{Fault, RequestError};
 /// Admits the tenant that a line gives, to the least free slot.
 #[inline(never)]
 pub(crate) fn admit<W: Tenancy>(world: &mut W, line: &[u8]) -> HostReply
-    ensures { IsHosted W.setup W.StandsFor world.old (admission_of (W.setup world.old).tenants (admitted_in line.now)) (ToHost result) world.new }
+    ensures { IsHosted W.setup W.StandsFor world.old
+        (admission_of (W.setup world.old).tenants (admitted_in line.now))
+        (ToHost result) world.new }
 {
     let Some(tenant) = read_admission(line) else {
         return HostReply::Denied(Fault::Syntax);
@@ -29,7 +31,8 @@ pub(crate) fn admit<W: Tenancy>(world: &mut W, line: &[u8]) -> HostReply
 /// Closes the slot of the tenant that a line names.
 #[inline(never)]
 pub(crate) fn close<W: Tenancy>(world: &mut W, line: &[u8]) -> HostReply
-    ensures { IsHosted W.setup W.StandsFor world.old (closing_of (W.setup world.old).tenants (closed_in line.now)) (ToHost result) world.new }
+    ensures { IsHosted W.setup W.StandsFor world.old
+        (closing_of (W.setup world.old).tenants (closed_in line.now)) (ToHost result) world.new }
 {
     let Some(name) = read_closing(line) else {
         return HostReply::Denied(Fault::Syntax);

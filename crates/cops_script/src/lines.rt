@@ -28,7 +28,8 @@ pub fn parse_act(line: &[u8]) -> Option<Act>
 /// Does the same for a line that is split after its first word.
 #[inline(always)]
 pub(crate) fn act_behind<'a>(line: &[u8], rest: Option<&'a [u8]>) -> Option<Act<'a>>
-    requires { parts_at space line.now ≡ first_word line.now ∷ option_map_or (λ rest. parts_at space rest.now) rest [] }
+    requires { parts_at space line.now
+        ≡ first_word line.now ∷ option_map_or (λ rest. parts_at space rest.now) rest [] }
     ensures { result ≡ act_in (first_word line.now) line.now }
 {
     let words = words_of_act(line, rest)?;
@@ -38,8 +39,11 @@ pub(crate) fn act_behind<'a>(line: &[u8], rest: Option<&'a [u8]>) -> Option<Act<
 /// Returns the words after the first one, if there are any and the line is short enough for an act.
 #[inline(always)]
 pub(crate) fn words_of_act<'a>(line: &[u8], rest: Option<&'a [u8]>) -> Option<&'a [u8]>
-    requires { parts_at space line.now ≡ first_word line.now ∷ option_map_or (λ rest. parts_at space rest.now) rest [] }
-    ensures some { IfSome result (λ words. option_and_then with_line (act_of_words ([] ∷ parts_at space words.now)) ≡ act_in (first_word line.now) line.now) }
+    requires { parts_at space line.now
+        ≡ first_word line.now ∷ option_map_or (λ rest. parts_at space rest.now) rest [] }
+    ensures some { IfSome result
+        (λ words. option_and_then with_line (act_of_words ([] ∷ parts_at space words.now))
+        ≡ act_in (first_word line.now) line.now) }
     ensures none { IfNone result (act_in (first_word line.now) line.now ≡ None) }
 {
     if line.len() > LONGEST_LINE {
@@ -180,8 +184,11 @@ fn read_collect(words: &[u8]) -> Option<Act>
 /// Returns the next word, if it is a name and more words follow.
 #[inline(always)]
 fn next_name(words: &[u8]) -> Option<Name>
-    ensures some { IfSome result (λ name. IsTrue (is_name name) × (length name + 1 ≤ length words.now) × (parts_at space words.now ≡ name ∷ parts_at space (drop (length name + 1) words.now))) }
-    ensures none { IfNone result ((name second : List ℕ) (rest : List (List ℕ)) → IsTrue (is_name name) → parts_at space words.now ≡ name ∷ second ∷ rest → ⊥) }
+    ensures some { IfSome result
+        (λ name. IsTrue (is_name name) × (length name + 1 ≤ length words.now)
+        × (parts_at space words.now ≡ name ∷ parts_at space (drop (length name + 1) words.now))) }
+    ensures none { IfNone result ((name second : List ℕ) (rest : List (List ℕ)) →
+        IsTrue (is_name name) → parts_at space words.now ≡ name ∷ second ∷ rest → ⊥) }
 {
     let name = Name::at_front(words)?;
     Some(name)
@@ -200,8 +207,10 @@ fn behind_name<'a>(words: &'a [u8], name: &Name) -> &'a [u8]
 /// follow.
 #[inline(always)]
 fn next_number(words: &[u8]) -> Option<(u64, &[u8])>
-    ensures some { IfSome result (λ both. IsTrue (is_u64 both.0) × (parts_at space words.now ≡ decimal both.0 ∷ parts_at space both.1.now)) }
-    ensures none { IfNone result ((n : ℕ) (second : List ℕ) (rest : List (List ℕ)) → IsTrue (is_u64 n) → parts_at space words.now ≡ decimal n ∷ second ∷ rest → ⊥) }
+    ensures some { IfSome result (λ both. IsTrue (is_u64 both.0)
+        × (parts_at space words.now ≡ decimal both.0 ∷ parts_at space both.1.now)) }
+    ensures none { IfNone result ((n : ℕ) (second : List ℕ) (rest : List (List ℕ)) →
+        IsTrue (is_u64 n) → parts_at space words.now ≡ decimal n ∷ second ∷ rest → ⊥) }
 {
     let (number, rest) = number_at_front(words)?;
     Some((number, rest))
@@ -209,8 +218,10 @@ fn next_number(words: &[u8]) -> Option<(u64, &[u8])>
 
 /// Returns the word, if it is a name and the last word.
 fn last_name(words: &[u8]) -> Option<Name>
-    ensures some { IfSome result (λ name. IsTrue (is_name name) × (parts_at space words.now ≡ name ∷ [])) }
-    ensures none { IfNone result ((name : List ℕ) → IsTrue (is_name name) → parts_at space words.now ≡ name ∷ [] → ⊥) }
+    ensures some { IfSome result
+        (λ name. IsTrue (is_name name) × (parts_at space words.now ≡ name ∷ [])) }
+    ensures none { IfNone result
+        ((name : List ℕ) → IsTrue (is_name name) → parts_at space words.now ≡ name ∷ [] → ⊥) }
 {
     let Ok(name) = Name::new(words) else {
         return None;
@@ -221,8 +232,10 @@ fn last_name(words: &[u8]) -> Option<Name>
 /// Returns the word's number, if it writes one and is the last word.
 #[inline(always)]
 fn last_number(words: &[u8]) -> Option<u64>
-    ensures some { IfSome result (λ n. IsTrue (is_u64 n) × (parts_at space words.now ≡ decimal n ∷ [])) }
-    ensures none { IfNone result ((n : ℕ) → IsTrue (is_u64 n) → parts_at space words.now ≡ decimal n ∷ [] → ⊥) }
+    ensures some { IfSome result
+        (λ n. IsTrue (is_u64 n) × (parts_at space words.now ≡ decimal n ∷ [])) }
+    ensures none { IfNone result
+        ((n : ℕ) → IsTrue (is_u64 n) → parts_at space words.now ≡ decimal n ∷ [] → ⊥) }
 {
     let number = parse_number(words)?;
     Some(number)
@@ -231,8 +244,10 @@ fn last_number(words: &[u8]) -> Option<u64>
 /// Returns the two words, if they are a name and a number, and the last words.
 #[inline(always)]
 fn last_name_and_number(words: &[u8]) -> Option<(Name, u64)>
-    ensures some { IfSome result (λ both. IsTrue (is_name both.0) × IsTrue (is_u64 both.1) × (parts_at space words.now ≡ both.0 ∷ decimal both.1 ∷ [])) }
-    ensures none { IfNone result ((name : List ℕ) (n : ℕ) → IsTrue (is_name name) → IsTrue (is_u64 n) → parts_at space words.now ≡ name ∷ decimal n ∷ [] → ⊥) }
+    ensures some { IfSome result (λ both. IsTrue (is_name both.0) × IsTrue (is_u64 both.1)
+        × (parts_at space words.now ≡ both.0 ∷ decimal both.1 ∷ [])) }
+    ensures none { IfNone result ((name : List ℕ) (n : ℕ) → IsTrue (is_name name) →
+        IsTrue (is_u64 n) → parts_at space words.now ≡ name ∷ decimal n ∷ [] → ⊥) }
 {
     let name = next_name(words)?;
     let rest = behind_name(words, &name);
@@ -242,8 +257,11 @@ fn last_name_and_number(words: &[u8]) -> Option<(Name, u64)>
 
 /// Returns the three words, if they are numbers and the last words.
 fn last_three_numbers(words: &[u8]) -> Option<(u64, u64, u64)>
-    ensures some { IfSome result (λ all. IsTrue (is_u64 all.0) × IsTrue (is_u64 all.1) × IsTrue (is_u64 all.2) × (parts_at space words.now ≡ decimal all.0 ∷ decimal all.1 ∷ decimal all.2 ∷ [])) }
-    ensures none { IfNone result ((n m k : ℕ) → IsTrue (is_u64 n) → IsTrue (is_u64 m) → IsTrue (is_u64 k) → parts_at space words.now ≡ decimal n ∷ decimal m ∷ decimal k ∷ [] → ⊥) }
+    ensures some { IfSome result
+        (λ all. IsTrue (is_u64 all.0) × IsTrue (is_u64 all.1) × IsTrue (is_u64 all.2)
+        × (parts_at space words.now ≡ decimal all.0 ∷ decimal all.1 ∷ decimal all.2 ∷ [])) }
+    ensures none { IfNone result ((n m k : ℕ) → IsTrue (is_u64 n) → IsTrue (is_u64 m) →
+        IsTrue (is_u64 k) → parts_at space words.now ≡ decimal n ∷ decimal m ∷ decimal k ∷ [] → ⊥) }
 {
     let (first, rest) = next_number(words)?;
     let (second, rest) = next_number(rest)?;
@@ -255,8 +273,12 @@ fn last_three_numbers(words: &[u8]) -> Option<(u64, u64, u64)>
 /// so there is no search for one behind the key.
 #[inline(always)]
 fn last_key_and_value(words: &[u8]) -> Option<(&[u8], &[u8])>
-    ensures some { IfSome result (λ both. IsTrue (is_word both.0.now) × IsTrue (is_word both.1.now && list_all (is_between 33 126) both.1.now) × (parts_at space words.now ≡ both.0.now ∷ both.1.now ∷ [])) }
-    ensures none { IfNone result ((key value : List ℕ) → IsTrue (is_word key) → IsTrue (is_word value && list_all (is_between 33 126) value) → parts_at space words.now ≡ key ∷ value ∷ [] → ⊥) }
+    ensures some { IfSome result (λ both. IsTrue (is_word both.0.now)
+        × IsTrue (is_word both.1.now && list_all (is_between 33 126) both.1.now)
+        × (parts_at space words.now ≡ both.0.now ∷ both.1.now ∷ [])) }
+    ensures none { IfNone result ((key value : List ℕ) → IsTrue (is_word key) →
+        IsTrue (is_word value && list_all (is_between 33 126) value) →
+        parts_at space words.now ≡ key ∷ value ∷ [] → ⊥) }
 {
     let (key, value) = split_at_space(words)?;
     if key.is_empty() {

@@ -33,7 +33,8 @@ pub trait Tenancy {
     /// request or carrier is over, and the effects of its calls stand.
     fn act(&mut self, slot: u64, act: &Act) -> Result<Reply, AllocError>
         requires { IsTrue (is_open_at (setup self.old) slot) }
-        ensures { HasActed setup StandsFor self.old (record { slot = slot; act = act.now }) result self.new };
+        ensures { HasActed setup StandsFor self.old
+            (record { slot = slot; act = act.now }) result self.new };
 
     /// Gives the least free slot to a tenant, which starts with a new cluster. Returns the slot.
     /// Is refused if the tenant may not be admitted; memory can run out only otherwise.
@@ -69,8 +70,10 @@ pub fn run_all<W: Tenancy>(
     requires { All (λ e. IsTrue (is_open_at (W.setup world.old) e.slot)) events.now }
     ensures length { IfOk result (λ told. length told.items ≡ length events.now) }
     ensures setup { W.setup world.new ≡ W.setup world.old }
-    ensures goes { IfOk result (λ told. (slot : ℕ) (cluster : SoloCluster) → W.StandsFor world.old slot cluster →
-        (left : SoloCluster) × Goes (config_in (W.setup world.old) slot) (own slot events.now) (replies slot events.now told.items) cluster left × W.StandsFor world.new slot left) }
+    ensures goes { IfOk result
+        (λ told. (slot : ℕ) (cluster : SoloCluster) → W.StandsFor world.old slot cluster →
+        (left : SoloCluster) × Goes (config_in (W.setup world.old) slot) (own slot events.now)
+        (replies slot events.now told.items) cluster left × W.StandsFor world.new slot left) }
 {
     let mut told = Vec::with_capacity(alloc, events.len())?;
     for event in events {

@@ -38,8 +38,12 @@ pub(crate) fn answer_tenant<W: Tenancy>(
     out: &mut Vec<u8>,
 ) -> Result<(), AllocError>
     requires word { word.now ≡ first_word line.now }
-    requires rest { parts_at space line.now ≡ first_word line.now ∷ option_map_or (λ rest. parts_at space rest.now) rest [] }
-    ensures { OnOk result (Answers (λ text new. IsAnswered W.setup W.StandsFor world.old (said_found line.now (open_slot_of_name (W.setup world.old).tenants (first_word line.now))) text new) world.new out.old.items out.new.items) }
+    requires rest { parts_at space line.now
+        ≡ first_word line.now ∷ option_map_or (λ rest. parts_at space rest.now) rest [] }
+    ensures { OnOk result
+        (Answers (λ text new. IsAnswered W.setup W.StandsFor world.old (said_found line.now
+        (open_slot_of_name (W.setup world.old).tenants (first_word line.now))) text new)
+        world.new out.old.items out.new.items) }
 {
     let tenants = world.tenants();
     let Some(slot) = tenants.slot_of_name(word) else {
@@ -62,7 +66,9 @@ pub(crate) fn answer_tenant<W: Tenancy>(
 
 /// Appends the answer to a line after the head.
 fn answer<W: Tenancy>(world: &mut W, line: &[u8], out: &mut Vec<u8>) -> Result<(), AllocError>
-    ensures { OnOk result (Answers (λ text new. IsAnswered W.setup W.StandsFor world.old (said_in (W.setup world.old).tenants line.now) text new) world.new out.old.items out.new.items) }
+    ensures { OnOk result (Answers (λ text new. IsAnswered W.setup W.StandsFor world.old
+        (said_in (W.setup world.old).tenants line.now) text new)
+        world.new out.old.items out.new.items) }
 {
     let (word, rest) = split_word(line);
     if word == b"+".as_slice() {

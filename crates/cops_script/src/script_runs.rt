@@ -34,13 +34,16 @@ pub fn run_script_in<W: Tenancy + Drop, R: Read, O: Write>(
     // All is read, and each line after the head is answered, or a prefix of the answers is written.
     ensures end { OnOk result (IsAtEnd (R.remaining (source_reader source.new))) }
     ensures ok { OnOk result (IfSome (R.remaining (source_reader source.old)) (λ bytes.
-        WritesScript bytes (O.contents (sink_writer sink.old)) (O.contents (sink_writer sink.new)))) }
+        WritesScript bytes (O.contents (sink_writer sink.old))
+        (O.contents (sink_writer sink.new)))) }
     ensures err { OnErr result (IfSome (R.remaining (source_reader source.old)) (λ bytes.
-        WritesFront bytes (O.contents (sink_writer sink.old)) (O.contents (sink_writer sink.new)))) }
+        WritesFront bytes (O.contents (sink_writer sink.old))
+        (O.contents (sink_writer sink.new)))) }
 
     // A bad head is refused, and nothing is written then.
     ensures bad_head { IfErr result (λ fault. IfRunRefused fault (λ bad.
-        IfSome (R.remaining (source_reader source.old)) (λ bytes. head_of (lines_of bytes) ≡ BadAt bad.line))) }
+        IfSome (R.remaining (source_reader source.old))
+        (λ bytes. head_of (lines_of bytes) ≡ BadAt bad.line))) }
     ensures unwritten { IfErr result (λ fault. IfRunRefused fault (λ bad.
         Keeps (O.contents (sink_writer sink.old)) (O.contents (sink_writer sink.new)))) }
 
@@ -48,7 +51,8 @@ pub fn run_script_in<W: Tenancy + Drop, R: Read, O: Write>(
     ensures read_fault { IsErrOf result RunFault.ReadFault →
         HasRisen (source_failures source.old) (source_failures source.new)
         ⊎ HasRisenBy (source_reads source.old) (source_reads source.new) turns }
-    ensures write_fault { IsErrOf result RunFault.WriteFault → HasRisen (sink_failures sink.old) (sink_failures sink.new) }
+    ensures write_fault { IsErrOf result RunFault.WriteFault →
+        HasRisen (sink_failures sink.old) (sink_failures sink.new) }
 {
     let mut script: ScriptMachine<AllLines, W> = new_script(AllLines);
     let ended = run_lines(&mut script, alloc, turns, LONGEST_LINE, source, sink);

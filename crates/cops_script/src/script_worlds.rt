@@ -37,12 +37,15 @@ pub fn script_world_in<W: Tenancy + Drop, R: Read>(
 ) -> Result<W, RunFault<BadConfig>>
     // All is read, and the world is the one after the script.
     ensures end { OnOk result (IsAtEnd (R.remaining (source_reader source.new))) }
-    ensures ok { IfOk result (λ world. IfSome (R.remaining (source_reader source.old)) (λ bytes. IsLeftBy W.setup W.StandsFor bytes world)) }
-    ensures read { IfOk result (IsLeftByRead W.setup W.StandsFor (R.remaining (source_reader source.old)) (R.remaining (source_reader source.new))) }
+    ensures ok { IfOk result (λ world. IfSome (R.remaining (source_reader source.old))
+        (λ bytes. IsLeftBy W.setup W.StandsFor bytes world)) }
+    ensures read { IfOk result (IsLeftByRead W.setup W.StandsFor
+        (R.remaining (source_reader source.old)) (R.remaining (source_reader source.new))) }
 
     // A bad head is refused.
     ensures bad_head { IfErr result (λ fault. IfRunRefused fault (λ bad.
-        IfSome (R.remaining (source_reader source.old)) (λ bytes. head_of (lines_of bytes) ≡ BadAt bad.line))) }
+        IfSome (R.remaining (source_reader source.old))
+        (λ bytes. head_of (lines_of bytes) ≡ BadAt bad.line))) }
 
     // The reader failed in this call, or the turns are used up. Nothing is written.
     ensures read_fault { IsErrOf result RunFault.ReadFault →

@@ -38,11 +38,15 @@ pub fn read_head(
     head: &mut HeadSoFar,
     line: &[u8],
 ) -> Result<Option<Config>, Stop<BadConfig>>
-    ensures more { IfOk result (λ begun. IfNone begun (HeadContinues head.old.reader head.old.lines line.now head.new.reader head.new.lines)) }
-    ensures begun { IfOk result (λ begun. IfSome begun (λ config. front_with head.old.reader line.now ≡ Some (Begun config))) }
+    ensures more { IfOk result (λ begun. IfNone begun
+        (HeadContinues head.old.reader head.old.lines line.now head.new.reader head.new.lines)) }
+    ensures begun { IfOk result (λ begun.
+        IfSome begun (λ config. front_with head.old.reader line.now ≡ Some (Begun config))) }
     ensures good { IfOk result (λ begun. IfSome begun (λ config. IsTrue (is_good config))) }
-    ensures err { IfErr result (λ stop. IfRefused stop (λ bad. front_with head.old.reader line.now ≡ None)) }
-    ensures number { IfErr result (λ stop. IfRefused stop (λ bad. bad.line ≡ counted head.old.lines)) }
+    ensures err { IfErr result
+        (λ stop. IfRefused stop (λ bad. front_with head.old.reader line.now ≡ None)) }
+    ensures number { IfErr result
+        (λ stop. IfRefused stop (λ bad. bad.line ≡ counted head.old.lines)) }
 {
     let number = head.lines.saturating_add(1);
     match head.reader.line(alloc, line) {

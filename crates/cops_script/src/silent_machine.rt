@@ -63,8 +63,10 @@ fn unless_host_lacked(reply: &HostReply) -> Result<(), AllocError>
 /// runs out.
 fn act_for<W: Tenancy>(world: &mut W, slot: u64, line: &[u8]) -> Result<(), AllocError>
     requires { IsTrue (is_open_at (W.setup world.old) slot) }
-    ensures done { OnOk result (IsDoneWhole W.setup W.StandsFor world.old (said_by slot (act_in (first_word line.now) line.now)) world.new) }
-    ensures lacked { OnErr result (HasLacked W.setup W.StandsFor world.old (said_by slot (act_in (first_word line.now) line.now)) world.new) }
+    ensures done { OnOk result (IsDoneWhole W.setup W.StandsFor world.old
+        (said_by slot (act_in (first_word line.now) line.now)) world.new) }
+    ensures lacked { OnErr result (HasLacked W.setup W.StandsFor world.old
+        (said_by slot (act_in (first_word line.now) line.now)) world.new) }
 {
     let Some(act) = parse_act(line) else {
         return Ok(());
@@ -76,8 +78,10 @@ fn act_for<W: Tenancy>(world: &mut W, slot: u64, line: &[u8]) -> Result<(), Allo
 /// Lets the tenant whom a line names do what it says. Fails with `AllocError` if memory runs out.
 fn act_tenant<W: Tenancy>(world: &mut W, word: &[u8], line: &[u8]) -> Result<(), AllocError>
     requires { word.now ≡ first_word line.now }
-    ensures done { OnOk result (IsDoneWhole W.setup W.StandsFor world.old (said_found line.now (open_slot_of_name (W.setup world.old).tenants (first_word line.now))) world.new) }
-    ensures lacked { OnErr result (HasLacked W.setup W.StandsFor world.old (said_found line.now (open_slot_of_name (W.setup world.old).tenants (first_word line.now))) world.new) }
+    ensures done { OnOk result (IsDoneWhole W.setup W.StandsFor world.old (said_found line.now
+        (open_slot_of_name (W.setup world.old).tenants (first_word line.now))) world.new) }
+    ensures lacked { OnErr result (HasLacked W.setup W.StandsFor world.old (said_found line.now
+        (open_slot_of_name (W.setup world.old).tenants (first_word line.now))) world.new) }
 {
     let Some(slot) = world.tenants().slot_of_name(word) else {
         return Ok(());
@@ -87,8 +91,10 @@ fn act_tenant<W: Tenancy>(world: &mut W, word: &[u8], line: &[u8]) -> Result<(),
 
 /// Does what a line after the head says. Fails with `AllocError` if memory runs out.
 fn act<W: Tenancy>(world: &mut W, line: &[u8]) -> Result<(), AllocError>
-    ensures done { OnOk result (IsDoneWhole W.setup W.StandsFor world.old (said_in (W.setup world.old).tenants line.now) world.new) }
-    ensures lacked { OnErr result (HasLacked W.setup W.StandsFor world.old (said_in (W.setup world.old).tenants line.now) world.new) }
+    ensures done { OnOk result (IsDoneWhole W.setup W.StandsFor world.old
+        (said_in (W.setup world.old).tenants line.now) world.new) }
+    ensures lacked { OnErr result (HasLacked W.setup W.StandsFor world.old
+        (said_in (W.setup world.old).tenants line.now) world.new) }
 {
     let (word, _rest) = split_word(line);
     if word == b"+".as_slice() {

@@ -106,7 +106,8 @@ fn admit_named<W: Tenancy + Drop>(
     tenant: Tenant,
 ) -> Result<(), AllocError>
     requires { IsTrue (is_tenant tenant) }
-    ensures { OnOk result (Takes W.setup W.StandsFor tenant.name run.old (OfHost (admission_of run.old.tenants (Some tenant))) [] run.new) }
+    ensures { OnOk result (Takes W.setup W.StandsFor tenant.name run.old
+        (OfHost (admission_of run.old.tenants (Some tenant))) [] run.new) }
 {
     let world = begin_alone(alloc, &run.head, &tenant)?;
     if give_slot(&mut run.tenants, tenant)? {
@@ -124,7 +125,8 @@ fn admit<W: Tenancy + Drop>(
     run: &mut SoloRun<W>,
     line: &[u8],
 ) -> Result<(), AllocError>
-    ensures { OnOk result (Takes W.setup W.StandsFor name.now run.old (OfHost (admission_of run.old.tenants (admitted_in line.now))) [] run.new) }
+    ensures { OnOk result (Takes W.setup W.StandsFor name.now run.old
+        (OfHost (admission_of run.old.tenants (admitted_in line.now))) [] run.new) }
 {
     let Some(tenant) = read_admission(line) else {
         return Ok(());
@@ -139,7 +141,8 @@ fn admit<W: Tenancy + Drop>(
 /// Closes the slot of the tenant that a line names.
 #[inline(never)]
 fn close<W: Tenancy + Drop>(name: &[u8], run: &mut SoloRun<W>, line: &[u8])
-    ensures { Takes W.setup W.StandsFor name.now run.old (OfHost (closing_of run.old.tenants (closed_in line.now))) [] run.new }
+    ensures { Takes W.setup W.StandsFor name.now run.old
+        (OfHost (closing_of run.old.tenants (closed_in line.now))) [] run.new }
 {
     let Some(closed) = read_closing(line) else {
         return;
@@ -162,8 +165,11 @@ fn answer_named<W: Tenancy>(
     out: &mut Vec<u8>,
 ) -> Result<(), AllocError>
     requires word { word.now ≡ first_word line.now }
-    requires rest { parts_at space line.now ≡ first_word line.now ∷ option_map_or (λ rest. parts_at space rest.now) rest [] }
-    ensures { OnOk result (Answers (λ text new. Takes W.setup W.StandsFor word.now run.old (said_found line.now (open_slot_of_name run.old.tenants (first_word line.now))) text new) run.new out.old.items out.new.items) }
+    requires rest { parts_at space line.now
+        ≡ first_word line.now ∷ option_map_or (λ rest. parts_at space rest.now) rest [] }
+    ensures { OnOk result (Answers (λ text new. Takes W.setup W.StandsFor word.now run.old
+        (said_found line.now (open_slot_of_name run.old.tenants (first_word line.now))) text new)
+        run.new out.old.items out.new.items) }
 {
     match &mut run.world {
         Some(world) => answer_tenant(world, word, rest, line, out),
@@ -179,7 +185,9 @@ fn answer<W: Tenancy + Drop>(
     line: &[u8],
     out: &mut Vec<u8>,
 ) -> Result<(), AllocError>
-    ensures { OnOk result (Answers (λ text new. AnswersOwn W.setup W.StandsFor (is_own name.now line.now) name.now run.old line.now text new) run.new out.old.items out.new.items) }
+    ensures { OnOk result (Answers (λ text new. AnswersOwn W.setup W.StandsFor
+        (is_own name.now line.now) name.now run.old line.now text new)
+        run.new out.old.items out.new.items) }
 {
     let (word, rest) = split_word(line);
     if word == b"+".as_slice() {

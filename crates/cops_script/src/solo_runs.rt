@@ -28,14 +28,17 @@ pub fn solo_script_in<W: Tenancy + Drop, R: Read, O: Write>(
     // written.
     ensures end { OnOk result (IsAtEnd (R.remaining (source_reader source.new))) }
     ensures ok { OnOk result (IfSome (R.remaining (source_reader source.old)) (λ bytes.
-        WritesSolo tenant.now bytes (O.contents (sink_writer sink.old)) (O.contents (sink_writer sink.new)))) }
+        WritesSolo tenant.now bytes (O.contents (sink_writer sink.old))
+        (O.contents (sink_writer sink.new)))) }
     ensures err { OnErr result (IfSome (R.remaining (source_reader source.old)) (λ bytes.
-        WritesSoloFront tenant.now bytes (O.contents (sink_writer sink.old)) (O.contents (sink_writer sink.new)))) }
+        WritesSoloFront tenant.now bytes (O.contents (sink_writer sink.old))
+        (O.contents (sink_writer sink.new)))) }
 
     // A bad head is refused, and so is a name of which no tenant was ever open; nothing is written
     // then.
     ensures refused { IfErr result (λ fault. IfRunRefused fault (λ refusal.
-        IfSome (R.remaining (source_reader source.old)) (λ bytes. IsRefusedFor tenant.now bytes refusal))) }
+        IfSome (R.remaining (source_reader source.old))
+        (λ bytes. IsRefusedFor tenant.now bytes refusal))) }
     ensures unwritten { IfErr result (λ fault. IfRunRefused fault (λ refusal.
         Keeps (O.contents (sink_writer sink.old)) (O.contents (sink_writer sink.new)))) }
 
@@ -43,7 +46,8 @@ pub fn solo_script_in<W: Tenancy + Drop, R: Read, O: Write>(
     ensures read_fault { IsErrOf result RunFault.ReadFault →
         HasRisen (source_failures source.old) (source_failures source.new)
         ⊎ HasRisenBy (source_reads source.old) (source_reads source.new) 4294967296 }
-    ensures write_fault { IsErrOf result RunFault.WriteFault → HasRisen (sink_failures sink.old) (sink_failures sink.new) }
+    ensures write_fault { IsErrOf result RunFault.WriteFault →
+        HasRisen (sink_failures sink.old) (sink_failures sink.new) }
 {
     let name = Bytes::new(alloc, tenant)?;
     let mut solo: ScriptMachine<LinesOf, SoloRun<W>> = new_script(LinesOf { name });

@@ -109,7 +109,8 @@ fn push_word(out: &mut Vec<u8>, word: &[u8]) -> Result<(), AllocError>
 
 /// Appends a word and a number.
 fn push_count(out: &mut Vec<u8>, word: &[u8], number: u64) -> Result<(), AllocError>
-    ensures { OnOk result (out.new.items ≡ out.old.items ++ spaced (word.now ∷ decimal number ∷ [])) }
+    ensures { OnOk result
+        (out.new.items ≡ out.old.items ++ spaced (word.now ∷ decimal number ∷ [])) }
 {
     push_word(out, word)?;
     out.push(b' ')?;
@@ -118,7 +119,8 @@ fn push_count(out: &mut Vec<u8>, word: &[u8], number: u64) -> Result<(), AllocEr
 
 /// Appends a word, a key and a version.
 fn push_pair_after(out: &mut Vec<u8>, word: &[u8], pair: &Pair) -> Result<(), AllocError>
-    ensures { OnOk result (out.new.items ≡ out.old.items ++ spaced (word.now ∷ pair.now.key ∷ version_text pair.now.version ∷ [])) }
+    ensures { OnOk result (out.new.items
+        ≡ out.old.items ++ spaced (word.now ∷ pair.now.key ∷ version_text pair.now.version ∷ [])) }
 {
     push_word(out, word)?;
     out.push(b' ')?;
@@ -129,7 +131,8 @@ fn push_pair_after(out: &mut Vec<u8>, word: &[u8], pair: &Pair) -> Result<(), Al
 
 /// Appends the two lists of a context.
 fn push_lists(out: &mut Vec<u8>, all: &Deps, near: &Near) -> Result<(), AllocError>
-    ensures { OnOk result (out.new.items ≡ out.old.items ++ spaced (words_of_reply (Lists all.now near.now))) }
+    ensures { OnOk result
+        (out.new.items ≡ out.old.items ++ spaced (words_of_reply (Lists all.now near.now))) }
 {
     push_word(out, b"all ")?;
     push_deps(out, all.owned())?;
@@ -139,7 +142,8 @@ fn push_lists(out: &mut Vec<u8>, all: &Deps, near: &Near) -> Result<(), AllocErr
 
 /// Appends the outcome for a stream's head.
 fn push_carried(out: &mut Vec<u8>, pair: &Pair, fresh: bool, acked: bool) -> Result<(), AllocError>
-    ensures { OnOk result (out.new.items ≡ out.old.items ++ spaced (words_of_reply (Carried pair.now fresh acked))) }
+    ensures { OnOk result
+        (out.new.items ≡ out.old.items ++ spaced (words_of_reply (Carried pair.now fresh acked))) }
 {
     let committed: &[u8] = if fresh { b"committed" } else { b"already" };
     let taken: &[u8] = if acked { b" acked" } else { b" notfront" };
@@ -149,7 +153,8 @@ fn push_carried(out: &mut Vec<u8>, pair: &Pair, fresh: bool, acked: bool) -> Res
 
 /// Appends the version that was committed last.
 fn push_mark(out: &mut Vec<u8>, mark: Version) -> Result<(), AllocError>
-    ensures { OnOk result (out.new.items ≡ out.old.items ++ spaced (words_of_reply (OutOfOrder mark))) }
+    ensures { OnOk result
+        (out.new.items ≡ out.old.items ++ spaced (words_of_reply (OutOfOrder mark))) }
 {
     push_word(out, b"outoforder ")?;
     push_version(out, mark)
@@ -190,7 +195,8 @@ fn push_read(out: &mut Vec<u8>, read: &Read) -> Result<(), AllocError>
 
 /// Appends the value, or `none`.
 fn push_value(out: &mut Vec<u8>, value: Option<&OwnedValue>) -> Result<(), AllocError>
-    ensures { OnOk result (out.new.items ≡ out.old.items ++ unwrap_or (option_copied value.entry) (codes "none")) }
+    ensures { OnOk result
+        (out.new.items ≡ out.old.items ++ unwrap_or (option_copied value.entry) (codes "none")) }
 {
     match value {
         Some(value) => push_word(out, value.bytes()),

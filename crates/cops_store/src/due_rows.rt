@@ -35,7 +35,8 @@ pub struct DueLine {
 fn link(rows: &mut Slab<DueRow>, line: &DueLine, slot: usize, due: KeptDue) -> usize
     requires room { HasRoomFor rows.old 1 }
     requires line { IsDueLine rows.old.slots slot line.now }
-    ensures added { IsDueAdded rows.old.slots rows.new.slots slot line.now.last line.now.count result due }
+    ensures added { IsDueAdded rows.old.slots rows.new.slots slot line.now.last
+        line.now.count result due }
     ensures len { slab_len rows.new ≡ slab_len rows.old + 1 }
 {
     let at = rows.insert_reserved(DueRow { slot, due, next: 0 });
@@ -168,7 +169,8 @@ impl DueRows {
         requires line { IsDueLine self.old.slots slot line.old }
         requires counted { line.old.count ≤ count_by is_some self.old.slots }
         ensures turn { IsDueTurn self.old.slots self.new.slots slot line.old line.new }
-        ensures dues { dues_in self.new.slots line.new ≡ dues_in self.old.slots line.old ++ due ∷ [] }
+        ensures dues { dues_in self.new.slots line.new
+            ≡ dues_in self.old.slots line.old ++ due ∷ [] }
         ensures least { line.new.least ≡ min line.old.least due.stale }
     {
         let stale = due.stale;
@@ -194,8 +196,10 @@ impl DueRows {
     pub(crate) fn pass(&mut self, line: &mut DueLine, stale: u64)
         requires line { (slot : ℕ) × IsDueLine self.old.slots slot line.old }
         requires some { 0 < line.old.count }
-        ensures turn { (slot : ℕ) → IsDueLine self.old.slots slot line.old → IsDueTurn self.old.slots self.new.slots slot line.old line.new }
-        ensures dues { dues_in self.new.slots line.new ≡ passed stale (dues_in self.old.slots line.old) }
+        ensures turn { (slot : ℕ) → IsDueLine self.old.slots slot line.old →
+            IsDueTurn self.old.slots self.new.slots slot line.old line.new }
+        ensures dues { dues_in self.new.slots line.new
+            ≡ passed stale (dues_in self.old.slots line.old) }
         ensures count { line.new.count ≡ line.old.count }
         ensures least { line.new.least ≡ line.old.least }
     {
@@ -208,7 +212,8 @@ impl DueRows {
     pub(crate) fn drop_first(&mut self, line: &mut DueLine)
         requires line { (slot : ℕ) × IsDueLine self.old.slots slot line.old }
         requires some { 0 < line.old.count }
-        ensures turn { (slot : ℕ) → IsDueLine self.old.slots slot line.old → IsDueTurn self.old.slots self.new.slots slot line.old line.new }
+        ensures turn { (slot : ℕ) → IsDueLine self.old.slots slot line.old →
+            IsDueTurn self.old.slots self.new.slots slot line.old line.new }
         ensures dues { dues_in self.new.slots line.new ≡ drop 1 (dues_in self.old.slots line.old) }
         ensures count { line.new.count + 1 ≡ line.old.count }
         ensures least { line.new.least ≡ line.old.least }
@@ -221,7 +226,8 @@ impl DueRows {
     // Removes all entries of a line.
     pub(crate) fn clear(&mut self, line: &mut DueLine)
         requires line { (slot : ℕ) × IsDueLine self.old.slots slot line.old }
-        ensures turn { (slot : ℕ) → IsDueLine self.old.slots slot line.old → IsDueTurn self.old.slots self.new.slots slot line.old line.new }
+        ensures turn { (slot : ℕ) → IsDueLine self.old.slots slot line.old →
+            IsDueTurn self.old.slots self.new.slots slot line.old line.new }
         ensures cleared { line.new ≡ no_dues }
         ensures room { self.new.room ≡ self.old.room }
     {

@@ -181,10 +181,13 @@ pub(crate) fn make_room(
     requires counted { line.old.count ≤ index_map_len rows.old }
     ensures at { IfOk result (λ i. IsAt rows.new.entries i slot key.now) }
     ensures turn { IsLineTurn rows.old.entries rows.new.entries slot line.old line.new }
-    ensures chains { OnOk result (chains_of (linked_in (row_of rows.new.entries slot) line.new) ≡ with_key key.now (chains_of (linked_in (row_of rows.old.entries slot) line.old))) }
-    ensures err { OnErr result (chains_of (linked_in (row_of rows.new.entries slot) line.new) ≡ chains_of (linked_in (row_of rows.old.entries slot) line.old)) }
+    ensures chains { OnOk result (chains_of (linked_in (row_of rows.new.entries slot) line.new)
+        ≡ with_key key.now (chains_of (linked_in (row_of rows.old.entries slot) line.old))) }
+    ensures err { OnErr result (chains_of (linked_in (row_of rows.new.entries slot) line.new)
+        ≡ chains_of (linked_in (row_of rows.old.entries slot) line.old)) }
     ensures room { OnOk result (HasRecordRoom (chain_in (row_of rows.new.entries slot key.now))) }
-    ensures succeeds { HasRecordRoom (chain_in (row_of rows.old.entries slot key.now)) → IsOk result }
+    ensures succeeds { HasRecordRoom (chain_in (row_of rows.old.entries slot key.now)) →
+        IsOk result }
 {
     if is_at(rows, guess, slot, key) {
         let row = &mut rows[guess];
@@ -208,10 +211,13 @@ fn find_room(
     requires counted { line.old.count ≤ index_map_len rows.old }
     ensures at { IfOk result (λ i. IsAt rows.new.entries i slot key.now) }
     ensures turn { IsLineTurn rows.old.entries rows.new.entries slot line.old line.new }
-    ensures chains { OnOk result (chains_of (linked_in (row_of rows.new.entries slot) line.new) ≡ with_key key.now (chains_of (linked_in (row_of rows.old.entries slot) line.old))) }
-    ensures err { OnErr result (chains_of (linked_in (row_of rows.new.entries slot) line.new) ≡ chains_of (linked_in (row_of rows.old.entries slot) line.old)) }
+    ensures chains { OnOk result (chains_of (linked_in (row_of rows.new.entries slot) line.new)
+        ≡ with_key key.now (chains_of (linked_in (row_of rows.old.entries slot) line.old))) }
+    ensures err { OnErr result (chains_of (linked_in (row_of rows.new.entries slot) line.new)
+        ≡ chains_of (linked_in (row_of rows.old.entries slot) line.old)) }
     ensures room { OnOk result (HasRecordRoom (chain_in (row_of rows.new.entries slot key.now))) }
-    ensures succeeds { HasRecordRoom (chain_in (row_of rows.old.entries slot key.now)) → IsOk result }
+    ensures succeeds { HasRecordRoom (chain_in (row_of rows.old.entries slot key.now)) →
+        IsOk result }
 {
     let (i, is_new) = find_or_add(alloc, rows, &mut line.first, slot, key)?;
     if is_new {
@@ -235,8 +241,11 @@ fn find_or_add(
     key: &Key,
 ) -> Result<(usize, bool), AllocError>
     ensures at { IfOk result (λ found. IsAt rows.new.entries found.0 slot key.now) }
-    ensures there { IfOk result (λ found. found.1 ≡ false → (rows.new.entries ≡ rows.old.entries) × (first.new ≡ first.old)) }
-    ensures added { IfOk result (λ found. found.1 ≡ true → IsNewRow rows.old.entries rows.new.entries slot key.now first.old × (first.new ≡ Some key.now)) }
+    ensures there { IfOk result (λ found.
+        found.1 ≡ false → (rows.new.entries ≡ rows.old.entries) × (first.new ≡ first.old)) }
+    ensures added { IfOk result
+        (λ found. found.1 ≡ true → IsNewRow rows.old.entries rows.new.entries slot key.now first.old
+        × (first.new ≡ Some key.now)) }
     ensures err { OnErr result ((rows.new.entries ≡ rows.old.entries) × (first.new ≡ first.old)) }
     ensures lacks { OnErr result (row_of rows.old.entries slot key.now ≡ None) }
     ensures unique { IsDistinct same_place (keys_of rows.new.entries) }
@@ -259,9 +268,14 @@ fn find_or_add(
 // Adds a record to the chain at the index, into reserved room. Returns `true` if something becomes
 // stale that is not noted.
 pub(crate) fn put(rows: &mut IndexMap<SlotKey, Row, Seeds>, i: usize, record_of: Record) -> bool
-    requires at { (slot : ℕ) × (key : List ℕ) × IsAt rows.old.entries i slot key × HasRecordRoom (chain_in (row_of rows.old.entries slot key)) × IfSome (chain_in (row_of rows.old.entries slot key)) (λ chain. Rises chain.items) }
+    requires at { (slot : ℕ) × (key : List ℕ) × IsAt rows.old.entries i slot key
+        × HasRecordRoom (chain_in (row_of rows.old.entries slot key))
+        × IfSome (chain_in (row_of rows.old.entries slot key)) (λ chain. Rises chain.items) }
     requires unique { IsDistinct same_place (keys_of rows.old.entries) }
-    ensures { (slot : ℕ) (key : List ℕ) → IsAt rows.old.entries i slot key → (old : KeptChain) × (new : KeptChain) × IsRechained rows.old.entries rows.new.entries slot key old new × (new.items ≡ placed record_of old.items) × (result ≡ not (is_covered record_of.at old.items)) }
+    ensures { (slot : ℕ) (key : List ℕ) → IsAt rows.old.entries i slot key → (old : KeptChain)
+        × (new : KeptChain) × IsRechained rows.old.entries rows.new.entries slot key old new
+        × (new.items ≡ placed record_of old.items)
+        × (result ≡ not (is_covered record_of.at old.items)) }
 {
     let row = &mut rows[i];
     let is_due = !row.chain.is_covered(record_of.at);
@@ -276,9 +290,13 @@ pub(crate) fn clean_at(
     now: u64,
     trans_time: u64,
 ) -> InUse
-    requires at { (slot : ℕ) × (key : List ℕ) × IsAt rows.old.entries i slot key × IfSome (chain_in (row_of rows.old.entries slot key)) (λ chain. AreCountable chain.items) }
+    requires at { (slot : ℕ) × (key : List ℕ) × IsAt rows.old.entries i slot key
+        × IfSome (chain_in (row_of rows.old.entries slot key)) (λ chain. AreCountable chain.items) }
     requires unique { IsDistinct same_place (keys_of rows.old.entries) }
-    ensures { (slot : ℕ) (key : List ℕ) → IsAt rows.old.entries i slot key → (old : KeptChain) × (new : KeptChain) × IsRechained rows.old.entries rows.new.entries slot key old new × (new.items ≡ filter (λ k. not (may_go now trans_time k.stale)) old.items) × IsFreed result old.items new.items }
+    ensures { (slot : ℕ) (key : List ℕ) → IsAt rows.old.entries i slot key → (old : KeptChain)
+        × (new : KeptChain) × IsRechained rows.old.entries rows.new.entries slot key old new
+        × (new.items ≡ filter (λ k. not (may_go now trans_time k.stale)) old.items)
+        × IsFreed result old.items new.items }
 {
     let row = &mut rows[i];
     row.chain.clean(now, trans_time)

@@ -48,10 +48,14 @@ impl Tables {
         key: &Key,
     ) -> Result<(), AllocError>
         requires { slot < length self.old.table }
-        ensures shelf { (used : InUse) (due : List DueEntry) → IsShelf used due (chains_at slot self.old.table) → IsShelf used due (chains_at slot self.new.table) }
+        ensures shelf { (used : InUse) (due : List DueEntry) →
+            IsShelf used due (chains_at slot self.old.table) →
+            IsShelf used due (chains_at slot self.new.table) }
         ensures due { self.new.due.slots ≡ self.old.due.slots }
-        ensures room { OnOk result (IsTrue self.new.due.room × IsRoomy key.now (chain_entries_at slot self.new.table)) }
-        ensures rows { all_rows (chains_at slot self.new.table) ≡ all_rows (chains_at slot self.old.table) }
+        ensures room { OnOk result
+            (IsTrue self.new.due.room × IsRoomy key.now (chain_entries_at slot self.new.table)) }
+        ensures rows { all_rows (chains_at slot self.new.table)
+            ≡ all_rows (chains_at slot self.old.table) }
         ensures others { OtherSlotsStay slot self.old.table self.new.table }
     {
         self.due.reserve(alloc, key)?;
@@ -66,11 +70,16 @@ impl Tables {
         requires line { IsDueLine self.old.due.slots slot dues.old }
         requires some { 0 < dues.old.count }
         requires countable { AreCountable (all_rows (chains_at slot self.old.table)) }
-        ensures chains { chains_at slot self.new.table ≡ cleaned_by_first now trans_time (dues_in self.old.due.slots dues.old) (chains_at slot self.old.table) }
-        ensures freed { IsFreed result.freed (all_rows (chains_at slot self.old.table)) (all_rows (chains_at slot self.new.table)) }
-        ensures dues { (d : DueEntry) (rest : List DueEntry) → dues_in self.old.due.slots dues.old ≡ d ∷ rest →
-            (dues_in self.new.due.slots dues.new ≡ rest ++ kept_dues now trans_time (chains_at slot self.new.table) (d ∷ []))
-            × AllByRecursion (λ e. result.least ≤ e.stale) (kept_dues now trans_time (chains_at slot self.new.table) (d ∷ [])) }
+        ensures chains { chains_at slot self.new.table ≡ cleaned_by_first now trans_time
+            (dues_in self.old.due.slots dues.old) (chains_at slot self.old.table) }
+        ensures freed { IsFreed result.freed (all_rows (chains_at slot self.old.table))
+            (all_rows (chains_at slot self.new.table)) }
+        ensures dues { (d : DueEntry) (rest : List DueEntry) →
+            dues_in self.old.due.slots dues.old ≡ d ∷ rest →
+            (dues_in self.new.due.slots dues.new
+            ≡ rest ++ kept_dues now trans_time (chains_at slot self.new.table) (d ∷ []))
+            × AllByRecursion (λ e. result.least ≤ e.stale)
+            (kept_dues now trans_time (chains_at slot self.new.table) (d ∷ [])) }
         ensures turn { IsDueTurn self.old.due.slots self.new.due.slots slot dues.old dues.new }
         ensures others { OtherSlotsStay slot self.old.table self.new.table }
     {
@@ -112,10 +121,14 @@ impl Tables {
         requires slot { slot < length self.old.table }
         requires line { IsDueLine self.old.due.slots slot dues.old }
         requires countable { AreCountable (all_rows (chains_at slot self.old.table)) }
-        requires noted { AreNoted (dues_in self.old.due.slots dues.old) (chains_at slot self.old.table) }
-        ensures chains { chains_at slot self.new.table ≡ collect_chains_by now trans_time (dues_in self.old.due.slots dues.old) (chains_at slot self.old.table) }
-        ensures freed { IsFreed result (all_rows (chains_at slot self.old.table)) (all_rows (chains_at slot self.new.table)) }
-        ensures dues { dues_in self.new.due.slots dues.new ≡ kept_dues now trans_time (chains_at slot self.new.table) (dues_in self.old.due.slots dues.old) }
+        requires noted { AreNoted (dues_in self.old.due.slots dues.old)
+            (chains_at slot self.old.table) }
+        ensures chains { chains_at slot self.new.table ≡ collect_chains_by now trans_time
+            (dues_in self.old.due.slots dues.old) (chains_at slot self.old.table) }
+        ensures freed { IsFreed result (all_rows (chains_at slot self.old.table))
+            (all_rows (chains_at slot self.new.table)) }
+        ensures dues { dues_in self.new.due.slots dues.new ≡ kept_dues now trans_time
+            (chains_at slot self.new.table) (dues_in self.old.due.slots dues.old) }
         ensures least { IsFromLeast self.new.due.slots dues.new }
         ensures turn { IsDueTurn self.old.due.slots self.new.due.slots slot dues.old dues.new }
         ensures others { OtherSlotsStay slot self.old.table self.new.table }

@@ -61,21 +61,34 @@ impl Shelf {
         requires slot { slot < length tables.old.table }
         requires line { IsDueLine tables.old.due.slots slot self.old.due }
         requires counted { self.old.due.count ≤ count_by is_some tables.old.due.slots }
-        requires shelf { IsShelf self.old.used (dues_in tables.old.due.slots self.old.due) (chains_at slot tables.old.table) }
-        requires new_version { LacksVersion entry.key entry.version (all_rows (chains_at slot tables.old.table)) }
-        ensures shelf { IsShelf self.new.used (dues_in tables.new.due.slots self.new.due) (chains_at slot tables.new.table) }
-        ensures least { IsFromLeast tables.old.due.slots self.old.due → IsFromLeast tables.new.due.slots self.new.due }
-        ensures turn { IsDueTurn tables.old.due.slots tables.new.due.slots slot self.old.due self.new.due }
+        requires shelf { IsShelf self.old.used (dues_in tables.old.due.slots self.old.due)
+            (chains_at slot tables.old.table) }
+        requires new_version { LacksVersion entry.key entry.version
+            (all_rows (chains_at slot tables.old.table)) }
+        ensures shelf { IsShelf self.new.used (dues_in tables.new.due.slots self.new.due)
+            (chains_at slot tables.new.table) }
+        ensures least { IsFromLeast tables.old.due.slots self.old.due →
+            IsFromLeast tables.new.due.slots self.new.due }
+        ensures turn { IsDueTurn tables.old.due.slots tables.new.due.slots slot
+            self.old.due self.new.due }
         ensures others { OtherSlotsStay slot tables.old.table tables.new.table }
 
         // Whatever the rows represent, they then represent that with one more record.
-        ensures stands_for { OnOk result ((tracked : List Tracked) → StandsFor (all_rows (chains_at slot tables.old.table)) tracked → NoneLater now tracked → StandsFor (all_rows (chains_at slot tables.new.table)) (tracked ++ record { record_of = record { entry = entry; at = now }; removed = false } ∷ [])) }
+        ensures stands_for { OnOk result ((tracked : List Tracked) →
+            StandsFor (all_rows (chains_at slot tables.old.table)) tracked → NoneLater now tracked →
+            StandsFor (all_rows (chains_at slot tables.new.table)) (tracked
+            ++ record { record_of = record { entry = entry; at = now }; removed = false } ∷ [])) }
 
         // With reserved room, only the quotas refuse.
-        ensures refused { IfSome (refusal quota.now (size_of entry) self.old.used) (λ fault. result ≡ Err (Refused fault)) }
-        ensures faults { IfRefusal result (λ fault. refusal quota.now (size_of entry) self.old.used ≡ Some fault) }
-        ensures succeeds { IsTrue tables.old.due.room → IsRoomy entry.key (chain_entries_at slot tables.old.table) → refusal quota.now (size_of entry) self.old.used ≡ None → IsOk result }
-        ensures err { OnErr result (all_rows (chains_at slot tables.new.table) ≡ all_rows (chains_at slot tables.old.table)) }
+        ensures refused { IfSome (refusal quota.now (size_of entry) self.old.used)
+            (λ fault. result ≡ Err (Refused fault)) }
+        ensures faults { IfRefusal result
+            (λ fault. refusal quota.now (size_of entry) self.old.used ≡ Some fault) }
+        ensures succeeds { IsTrue tables.old.due.room →
+            IsRoomy entry.key (chain_entries_at slot tables.old.table) →
+            refusal quota.now (size_of entry) self.old.used ≡ None → IsOk result }
+        ensures err { OnErr result (all_rows (chains_at slot tables.new.table)
+            ≡ all_rows (chains_at slot tables.old.table)) }
     {
         let size = size(&entry);
         let used = self.used;
@@ -107,13 +120,21 @@ impl Shelf {
         requires slot { slot < length tables.old.table }
         requires line { IsDueLine tables.old.due.slots slot self.old.due }
         requires least { IsFromLeast tables.old.due.slots self.old.due }
-        requires shelf { IsShelf self.old.used (dues_in tables.old.due.slots self.old.due) (chains_at slot tables.old.table) }
-        ensures shelf { IsShelf self.new.used (dues_in tables.new.due.slots self.new.due) (chains_at slot tables.new.table) }
+        requires shelf { IsShelf self.old.used (dues_in tables.old.due.slots self.old.due)
+            (chains_at slot tables.old.table) }
+        ensures shelf { IsShelf self.new.used (dues_in tables.new.due.slots self.new.due)
+            (chains_at slot tables.new.table) }
         ensures least { IsFromLeast tables.new.due.slots self.new.due }
-        ensures turn { IsDueTurn tables.old.due.slots tables.new.due.slots slot self.old.due self.new.due }
+        ensures turn { IsDueTurn tables.old.due.slots tables.new.due.slots slot
+            self.old.due self.new.due }
         ensures others { OtherSlotsStay slot tables.old.table tables.new.table }
-        ensures removed { (tracked : List Tracked) → StandsFor (all_rows (chains_at slot tables.old.table)) tracked → result ≡ collectable trans_time now tracked }
-        ensures stands_for { (tracked : List Tracked) → StandsFor (all_rows (chains_at slot tables.old.table)) tracked → StandsFor (all_rows (chains_at slot tables.new.table)) (collected_records trans_time now tracked) }
+        ensures removed { (tracked : List Tracked) →
+            StandsFor (all_rows (chains_at slot tables.old.table)) tracked →
+            result ≡ collectable trans_time now tracked }
+        ensures stands_for { (tracked : List Tracked) →
+            StandsFor (all_rows (chains_at slot tables.old.table)) tracked →
+            StandsFor (all_rows (chains_at slot tables.new.table))
+            (collected_records trans_time now tracked) }
     {
         if !self.due.is_ripe(now, trans_time) {
             return 0;
@@ -133,7 +154,8 @@ impl Shelf {
         requires line { IsDueLine tables.old.due.slots slot self.old.due }
         ensures shelf { self.new ≡ empty_shelf }
         ensures chains { tables.new.table ≡ slice_set tables.old.table slot [] }
-        ensures turn { IsDueTurn tables.old.due.slots tables.new.due.slots slot self.old.due self.new.due }
+        ensures turn { IsDueTurn tables.old.due.slots tables.new.due.slots slot
+            self.old.due self.new.due }
         ensures room { tables.new.due.room ≡ tables.old.due.room }
     {
         tables.table.clear(slot);

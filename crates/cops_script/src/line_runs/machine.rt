@@ -36,11 +36,13 @@ pub trait LineMachine {
         line: &[u8],
         out: &mut Vec<u8>,
     ) -> Result<(), Stop<Self::Refusal>>
-        ensures ok { OnOk result (Answers (rules.answers self.old line.now) self.new out.old.items out.new.items) }
+        ensures ok { OnOk result
+            (Answers (rules.answers self.old line.now) self.new out.old.items out.new.items) }
         ensures err { IfErr result (λ stop. IfRefused stop (rules.refuses self.old line.now)) };
 
     /// Appends the answer to the end of the input to `out`.
     fn end(&mut self, alloc: Global, out: &mut Vec<u8>) -> Result<(), Stop<Self::Refusal>>
-        ensures ok { OnOk result (Answers (rules.ends self.old) self.new out.old.items out.new.items) }
+        ensures ok { OnOk result
+            (Answers (rules.ends self.old) self.new out.old.items out.new.items) }
         ensures err { IfErr result (λ stop. IfRefused stop (rules.refuses_end self.old)) };
 }

@@ -34,11 +34,13 @@ fn answer_line<M: LineMachine>(
 ) -> Result<(), Stop<M::Refusal>>
     requires limit { limit < 2 ^ 63 }
     requires front { length front.old.items ≤ limit + 1 }
-    ensures ok { OnOk result (Answers (M.rules.answers machine.old (cut_line limit (front.old.items ++ rest.now)))
+    ensures ok { OnOk result
+        (Answers (M.rules.answers machine.old (cut_line limit (front.old.items ++ rest.now)))
         machine.new out.old.items out.new.items) }
     ensures empty { OnOk result (front.new.items ≡ []) }
     ensures err { IfErr result (λ stop.
-        IfRefused stop (M.rules.refuses machine.old (cut_line limit (front.old.items ++ rest.now)))) }
+        IfRefused stop (M.rules.refuses machine.old
+        (cut_line limit (front.old.items ++ rest.now)))) }
 {
     if front.is_empty() {
         return machine.line(alloc, cut(rest, limit), out);
@@ -51,10 +53,12 @@ fn answer_line<M: LineMachine>(
 
 /// Writes the buffered answers.
 fn drain<W: Write>(out: &mut Vec<u8>, sink: &mut Sink<W>) -> io::Result<()>
-    ensures written { OnOk result (AppendsAllBut (W.contents (sink_writer sink.old)) (W.contents (sink_writer sink.new)) out.old.items out.new.items) }
+    ensures written { OnOk result (AppendsAllBut (W.contents (sink_writer sink.old))
+        (W.contents (sink_writer sink.new)) out.old.items out.new.items) }
     ensures empty { OnOk result (out.new.items ≡ []) }
     ensures nothing { out.old.items ≡ [] → IsOk result }
-    ensures front { AppendsFront (W.contents (sink_writer sink.old)) (W.contents (sink_writer sink.new)) out.old.items }
+    ensures front { AppendsFront (W.contents (sink_writer sink.old))
+        (W.contents (sink_writer sink.new)) out.old.items }
     ensures ok { OnOk result (sink_failures sink.new ≡ sink_failures sink.old) }
     ensures err { OnErr result (HasRisen (sink_failures sink.old) (sink_failures sink.new)) }
 {
@@ -68,9 +72,11 @@ fn drain<W: Write>(out: &mut Vec<u8>, sink: &mut Sink<W>) -> io::Result<()>
 
 /// Writes the buffered answers, once they reach the threshold.
 fn drain_full<W: Write>(out: &mut Vec<u8>, sink: &mut Sink<W>) -> io::Result<()>
-    ensures written { OnOk result (AppendsAllBut (W.contents (sink_writer sink.old)) (W.contents (sink_writer sink.new)) out.old.items out.new.items) }
+    ensures written { OnOk result (AppendsAllBut (W.contents (sink_writer sink.old))
+        (W.contents (sink_writer sink.new)) out.old.items out.new.items) }
     ensures nothing { out.old.items ≡ [] → IsOk result }
-    ensures front { AppendsFront (W.contents (sink_writer sink.old)) (W.contents (sink_writer sink.new)) out.old.items }
+    ensures front { AppendsFront (W.contents (sink_writer sink.old))
+        (W.contents (sink_writer sink.new)) out.old.items }
     ensures ok { OnOk result (sink_failures sink.new ≡ sink_failures sink.old) }
     ensures err { OnErr result (HasRisen (sink_failures sink.old) (sink_failures sink.new)) }
 {
@@ -94,16 +100,20 @@ fn answer_piece<W: Write, M: LineMachine>(
     requires front { IsLineFront limit front.old.items }
 
     ensures ok { OnOk result (Answered M.rules limit
-        (front.old.items ++ piece.now) (stage machine.old out.old.items (W.contents (sink_writer sink.old)))
+        (front.old.items ++ piece.now)
+        (stage machine.old out.old.items (W.contents (sink_writer sink.old)))
         front.new.items (stage machine.new out.new.items (W.contents (sink_writer sink.new)))) }
     ensures front { OnOk result (IsLineFront limit front.new.items) }
     ensures err { IfErr result (Stops M.rules limit
-        (front.old.items ++ piece.now) (stage machine.old out.old.items (W.contents (sink_writer sink.old)))
+        (front.old.items ++ piece.now)
+        (stage machine.old out.old.items (W.contents (sink_writer sink.old)))
         (W.contents (sink_writer sink.new))) }
 
     ensures same { OnOk result (sink_failures sink.new ≡ sink_failures sink.old) }
-    ensures told { (sink_failures sink.new ≡ sink_failures sink.old) ⊎ IsErrOf result RunFault.WriteFault }
-    ensures write_fault { IsErrOf result RunFault.WriteFault → HasRisen (sink_failures sink.old) (sink_failures sink.new) }
+    ensures told { (sink_failures sink.new ≡ sink_failures sink.old)
+        ⊎ IsErrOf result RunFault.WriteFault }
+    ensures write_fault { IsErrOf result RunFault.WriteFault →
+        HasRisen (sink_failures sink.old) (sink_failures sink.new) }
     ensures read_fault { IsErrOf result RunFault.ReadFault → ⊥ }
 {
     let mut rest = piece;
@@ -125,8 +135,10 @@ fn answer_last<M: LineMachine>(
     front: &[u8],
     out: &mut Vec<u8>,
 ) -> Result<(), Stop<M::Refusal>>
-    ensures ok { OnOk result (Answers (Run M.rules machine.old (last_line front.now)) machine.new out.old.items out.new.items) }
-    ensures err { IfErr result (λ stop. (last_line front.now ≡ front.now ∷ []) × IfRefused stop (M.rules.refuses machine.old front.now)) }
+    ensures ok { OnOk result (Answers (Run M.rules machine.old (last_line front.now)) machine.new
+        out.old.items out.new.items) }
+    ensures err { IfErr result (λ stop. (last_line front.now ≡ front.now ∷ [])
+        × IfRefused stop (M.rules.refuses machine.old front.now)) }
 {
     if front.is_empty() {
         return Ok(());
@@ -143,12 +155,16 @@ fn finish<W: Write, M: LineMachine>(
     out: &mut Vec<u8>,
     sink: &mut Sink<W>,
 ) -> Result<(), RunFault<M::Refusal>>
-    ensures ok { OnOk result (Finishes M.rules front.now (stage machine.old out.old.items (W.contents (sink_writer sink.old)))
+    ensures ok { OnOk result (Finishes M.rules front.now
+        (stage machine.old out.old.items (W.contents (sink_writer sink.old)))
         machine.new (W.contents (sink_writer sink.new))) }
-    ensures err { IfErr result (StopsAtEnd M.rules front.now (stage machine.old out.old.items (W.contents (sink_writer sink.old)))
+    ensures err { IfErr result (StopsAtEnd M.rules front.now
+        (stage machine.old out.old.items (W.contents (sink_writer sink.old)))
         (W.contents (sink_writer sink.new))) }
-    ensures told { (sink_failures sink.new ≡ sink_failures sink.old) ⊎ IsErrOf result RunFault.WriteFault }
-    ensures write_fault { IsErrOf result RunFault.WriteFault → HasRisen (sink_failures sink.old) (sink_failures sink.new) }
+    ensures told { (sink_failures sink.new ≡ sink_failures sink.old)
+        ⊎ IsErrOf result RunFault.WriteFault }
+    ensures write_fault { IsErrOf result RunFault.WriteFault →
+        HasRisen (sink_failures sink.old) (sink_failures sink.new) }
     ensures read_fault { IsErrOf result RunFault.ReadFault → ⊥ }
 {
     answer_last(machine, alloc, front, out)?;
@@ -177,22 +193,27 @@ pub fn run_lines<R: Read, W: Write, M: LineMachine>(
 
     // All is read and answered, or a prefix of the answers is written.
     ensures ok { OnOk result (AnswersAll M.rules limit
-        (R.remaining (source_reader source.old)) (R.remaining (source_reader source.new)) machine.old machine.new
+        (R.remaining (source_reader source.old))
+        (R.remaining (source_reader source.new)) machine.old machine.new
         (W.contents (sink_writer sink.old)) (W.contents (sink_writer sink.new))) }
     ensures err { IfErr result (StopsEarly M.rules limit
-        (R.remaining (source_reader source.old)) (R.remaining (source_reader source.new)) machine.old
+        (R.remaining (source_reader source.old))
+        (R.remaining (source_reader source.new)) machine.old
         (W.contents (sink_writer sink.old)) (W.contents (sink_writer sink.new))) }
 
     // The reader or the writer failed in this call, or the turns are used up.
     ensures read_fault { IsErrOf result RunFault.ReadFault →
         HasRisen (source_failures source.old) (source_failures source.new)
         ⊎ HasRisenBy (source_reads source.old) (source_reads source.new) turns }
-    ensures write_fault { IsErrOf result RunFault.WriteFault → HasRisen (sink_failures sink.old) (sink_failures sink.new) }
+    ensures write_fault { IsErrOf result RunFault.WriteFault →
+        HasRisen (sink_failures sink.old) (sink_failures sink.new) }
 
     // A turn is at most one read, and a failure ends the run and is its error.
     ensures turns { source_reads source.new ≤ source_reads source.old + turns }
-    ensures told_read { (source_failures source.new ≡ source_failures source.old) ⊎ IsErrOf result RunFault.ReadFault }
-    ensures told_write { (sink_failures sink.new ≡ sink_failures sink.old) ⊎ IsErrOf result RunFault.WriteFault }
+    ensures told_read { (source_failures source.new ≡ source_failures source.old)
+        ⊎ IsErrOf result RunFault.ReadFault }
+    ensures told_write { (sink_failures sink.new ≡ sink_failures sink.old)
+        ⊎ IsErrOf result RunFault.WriteFault }
 {
     let mut front = Vec::new(alloc);
     let mut out = Vec::new(alloc);

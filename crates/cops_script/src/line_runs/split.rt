@@ -6,7 +6,8 @@ use std::alloc::AllocError;
 
 /// Returns the first line, without its newline, and the bytes after it.
 pub(crate) fn split_line(bytes: &[u8]) -> Option<(&[u8], &[u8])>
-    ensures some { IfSome result (λ parts. IsUnbroken parts.0.now × (bytes.now ≡ parts.0.now ++ 10 ∷ parts.1.now)) }
+    ensures some { IfSome result
+        (λ parts. IsUnbroken parts.0.now × (bytes.now ≡ parts.0.now ++ 10 ∷ parts.1.now)) }
     ensures none { IfNone result (IsUnbroken bytes.now) }
 {
     let at = memchr::memchr(b'\n', bytes)?;
