@@ -352,7 +352,8 @@ fn service_in<'a>(serve: &ArgMatches<'a>) -> Service<'a>
 
 /// Returns the task of a command line that clap accepts.
 fn task_in<'a>(matches: &ArgMatches<'a>) -> Task<'a>
-    ensures { (words : List Text) → subcommand_rows_of matches.now ≡ subcommand_of cops words → fault_of cops words ≡ [] → IsAskedBy words result }
+    ensures { (words : List Text) → subcommand_rows_of matches.now ≡ subcommand_of cops words →
+        fault_of cops words ≡ [] → IsAskedBy words result }
 {
     if let Some(solo) = matches.subcommand_matches("solo") {
         let tenant = tenant_in(solo);

@@ -163,7 +163,8 @@ pub(crate) fn hand_input_on<R: Threads + Hosted + Eprint>(
     alloc: Global,
     lines: &Arc<HostLines, Global>,
 ) -> Result<(), CliFault>
-    ensures { IfErr result (λ fault. (fault ≡ CliFault.OutOfMemory) ⊎ (fault ≡ CliFault.ReadFault)) }
+    ensures { IfErr result
+        (λ fault. (fault ≡ CliFault.OutOfMemory) ⊎ (fault ≡ CliFault.ReadFault)) }
 {
     let line = LineSoFar::new(alloc)?;
     if start(rt, lines, line).is_err() {

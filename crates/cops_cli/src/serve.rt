@@ -111,7 +111,8 @@ fn stop_of<R>(
 ) -> Result<Arc<Stop, Global>, CliFault>
 where
     R: Threads + Hosted + Eprint,
-    ensures { IfErr result (λ fault. (fault ≡ CliFault.OutOfMemory) ⊎ (fault ≡ CliFault.ReadFault)) }
+    ensures { IfErr result
+        (λ fault. (fault ≡ CliFault.OutOfMemory) ⊎ (fault ≡ CliFault.ReadFault)) }
 {
     let stop = stop_at(rt, listener)?;
     let stop = shared(alloc, stop)?;
@@ -125,7 +126,8 @@ where
 
 /// Returns how the service is run.
 pub(crate) fn options_of(service: &Service<'_>) -> Options
-    ensures { result ≡ record { workers = service.now.workers; connections = service.now.connections; idle = service.now.idle } }
+    ensures { result
+        ≡ record { workers = service.now.workers; connections = service.now.connections; idle = service.now.idle } }
 {
     Options {
         workers: service.workers,
@@ -149,7 +151,8 @@ where
     requires clocks { IsTrue (are_clocks config.now) }
     ensures left { IfOk result (λ served. AreLeft (new_nodes config.now).nodes served.nodes.items) }
     ensures threads { IfOk result (λ served. served.end ≢ ServiceEnd.NoThread) }
-    ensures stopped { IfErr result (λ fault. (fault ≡ CliFault.OutOfMemory) ⊎ (fault ≡ CliFault.ReadFault)) }
+    ensures stopped { IfErr result
+        (λ fault. (fault ≡ CliFault.OutOfMemory) ⊎ (fault ≡ CliFault.ReadFault)) }
 {
     let listener = listen(rt, service.address)?;
     let stop = stop_of(rt, alloc, &listener, lines)?;
@@ -172,7 +175,8 @@ where
 /// Says what was served. Fails if a thread couldn't be started, since nothing was served then.
 pub(crate) fn told_end<R: Eprint>(rt: &R, end: ServiceEnd, counts: Counts) -> Result<(), CliFault>
     ensures threads { OnOk result (end ≢ ServiceEnd.NoThread) }
-    ensures stopped { IfErr result (λ fault. (fault ≡ CliFault.ReadFault) × (end ≡ ServiceEnd.NoThread)) }
+    ensures stopped { IfErr result
+        (λ fault. (fault ≡ CliFault.ReadFault) × (end ≡ ServiceEnd.NoThread)) }
 {
     let Counts {
         connections,
@@ -201,13 +205,16 @@ fn conclude<R: Eprint, O: Write>(
 ) -> Result<(), CliFault>
     requires sizes { IsTrue (are_sizes config.now) }
     requires nodes { AreNodesOf config.now served.now.nodes.items }
-    ensures ok { OnOk result (Appends (O.contents (sink_writer sink.old)) (O.contents (sink_writer sink.new))
+    ensures ok { OnOk result
+        (Appends (O.contents (sink_writer sink.old)) (O.contents (sink_writer sink.new))
         (audit_of config.now served.now.nodes.items)) }
-    ensures front { AppendsFront (O.contents (sink_writer sink.old)) (O.contents (sink_writer sink.new))
+    ensures front { AppendsFront (O.contents (sink_writer sink.old))
+        (O.contents (sink_writer sink.new))
         (audit_of config.now served.now.nodes.items) }
     ensures done { OnOk result (served.now.end ≡ ServiceEnd.Done) }
     ensures stopped { IfErr result (λ fault.
-        (fault ≡ CliFault.OutOfMemory) ⊎ (fault ≡ CliFault.WriteFault) ⊎ (fault ≡ CliFault.ReadFault)) }
+        (fault ≡ CliFault.OutOfMemory) ⊎ (fault ≡ CliFault.WriteFault)
+        ⊎ (fault ≡ CliFault.ReadFault)) }
     ensures lost { IsErrOf result CliFault.ReadFault →
         Appends (O.contents (sink_writer sink.old)) (O.contents (sink_writer sink.new))
         (audit_of config.now served.now.nodes.items) }

@@ -50,7 +50,8 @@ impl<R: Eprint> HostReports for Told<'_, R> {
 fn input_of<R>(rt: &R, alloc: Global) -> Result<Arc<HostLines, Global>, CliFault>
 where
     R: Threads + Hosted + Eprint,
-    ensures { IfErr result (λ fault. (fault ≡ CliFault.OutOfMemory) ⊎ (fault ≡ CliFault.ReadFault)) }
+    ensures { IfErr result
+        (λ fault. (fault ≡ CliFault.OutOfMemory) ⊎ (fault ≡ CliFault.ReadFault)) }
 {
     let lines = shared(alloc, HostLines::new(alloc)?)?;
     hand_input_on(rt, alloc, &lines)?;
@@ -75,7 +76,8 @@ fn told<R: Eprint>(rt: &R, served: HostServed) -> Result<HostServed, CliFault>
     ensures same { IfOk result (λ told. told ≡ served) }
     ensures threads { OnOk result (served.end ≢ ServiceEnd.NoThread) }
     ensures tenants { IfOk result (λ told. HaveTenants told.roster.tenants told.nodes.items) }
-    ensures stopped { IfErr result (λ fault. (fault ≡ CliFault.ReadFault) ⊎ (fault ≡ CliFault.Torn)) }
+    ensures stopped { IfErr result
+        (λ fault. (fault ≡ CliFault.ReadFault) ⊎ (fault ≡ CliFault.Torn)) }
 {
     match told_end(rt, served.end, served.counts) {
         Ok(()) => checked(served),
@@ -132,13 +134,16 @@ fn conclude<R: Eprint, O: Write>(
 ) -> Result<(), CliFault>
     requires sizes { IsTrue (are_sizes config.now) }
     requires nodes { AreNodesOfOpen config.now served.now.roster.tenants served.now.nodes.items }
-    ensures ok { OnOk result (Appends (O.contents (sink_writer sink.old)) (O.contents (sink_writer sink.new))
+    ensures ok { OnOk result
+        (Appends (O.contents (sink_writer sink.old)) (O.contents (sink_writer sink.new))
         (open_audit_of config.now served.now.roster.tenants served.now.nodes.items)) }
-    ensures front { AppendsFront (O.contents (sink_writer sink.old)) (O.contents (sink_writer sink.new))
+    ensures front { AppendsFront (O.contents (sink_writer sink.old))
+        (O.contents (sink_writer sink.new))
         (open_audit_of config.now served.now.roster.tenants served.now.nodes.items) }
     ensures done { OnOk result (served.now.end ≡ ServiceEnd.Done) }
     ensures stopped { IfErr result (λ fault.
-        (fault ≡ CliFault.OutOfMemory) ⊎ (fault ≡ CliFault.WriteFault) ⊎ (fault ≡ CliFault.ReadFault)) }
+        (fault ≡ CliFault.OutOfMemory) ⊎ (fault ≡ CliFault.WriteFault)
+        ⊎ (fault ≡ CliFault.ReadFault)) }
     ensures lost { IsErrOf result CliFault.ReadFault →
         Appends (O.contents (sink_writer sink.old)) (O.contents (sink_writer sink.new))
         (open_audit_of config.now served.now.roster.tenants served.now.nodes.items) }

@@ -76,8 +76,11 @@ fn extended(span: Span, at: usize) -> Span
 
 // Adds a row to those that wait for each data centre except the own.
 fn extend_all(waits: &mut [Span], own: u64, at: usize)
-    requires { (dc : ℕ) (d : Span) → dc < length waits.old → (slice_index_or waits.old dc d).count + 1 < 2 ^ 64 }
-    ensures { (dc : ℕ) (d : Span) → dc < length waits.old → slice_index_or waits.new dc d ≡ (if dc == own then slice_index_or waits.old dc d else span_with at (slice_index_or waits.old dc d)) }
+    requires { (dc : ℕ) (d : Span) → dc < length waits.old →
+        (slice_index_or waits.old dc d).count + 1 < 2 ^ 64 }
+    ensures { (dc : ℕ) (d : Span) → dc < length waits.old →
+        slice_index_or waits.new dc d ≡ (if dc == own then slice_index_or waits.old dc d
+        else span_with at (slice_index_or waits.old dc d)) }
 {
     for dc in 0..waits.len() {
         if dc as u64 != own {
@@ -89,8 +92,10 @@ fn extend_all(waits: &mut [Span], own: u64, at: usize)
 // Stores an entry of the slot in the table, and links it to the last one of the line.
 fn link(rows: &mut Slab<Row>, line: &Line, slot: usize, entry: Entry) -> usize
     requires room { HasRoomFor rows.old 1 }
-    requires line { IsQueueChain rows.old.slots slot line.now.last line.now.kept.count line.now.kept.first }
-    ensures added { IsAdded rows.old.slots rows.new.slots slot line.now.last line.now.kept.count result entry }
+    requires line { IsQueueChain rows.old.slots slot line.now.last line.now.kept.count
+        line.now.kept.first }
+    ensures added { IsAdded rows.old.slots rows.new.slots slot line.now.last
+        line.now.kept.count result entry }
     ensures len { slab_len rows.new ≡ slab_len rows.old + 1 }
 {
     let at = rows.insert_reserved(Row {
@@ -129,7 +134,8 @@ fn release(rows: &mut Slab<Row>, kept: Span) -> Span
     requires row { (slot : ℕ) × IsRowOf rows.old.slots slot kept.first }
     requires some { 0 < kept.count }
     ensures gone { IsGone rows.old.slots rows.new.slots kept.first }
-    ensures rest { result ≡ record { first = next_in (cell_at rows.old.slots kept.first); count = kept.count - 1 } }
+    ensures rest { result
+        ≡ record { first = next_in (cell_at rows.old.slots kept.first); count = kept.count - 1 } }
     ensures len { slab_len rows.new + 1 ≡ slab_len rows.old }
 {
     let row = rows.remove(kept.first);
@@ -150,7 +156,8 @@ fn is_waited_for(waits: &[Span], count: usize) -> bool
 fn shortened(rows: &Slab<Row>, span: Span) -> Span
     requires row { (slot : ℕ) × IsRowOf rows.now.slots slot span.first }
     requires some { 0 < span.count }
-    ensures { result ≡ record { first = next_in (cell_at rows.now.slots span.first); count = span.count - 1 } }
+    ensures { result
+        ≡ record { first = next_in (cell_at rows.now.slots span.first); count = span.count - 1 } }
 {
     let row = &rows[span.first];
     Span {
@@ -163,10 +170,13 @@ fn shortened(rows: &Slab<Row>, span: Span) -> Span
 pub(crate) fn pass(rows: &mut Slab<Row>, line: &mut Line, dc: usize)
     requires dc { dc < length line.old.waits.items }
     requires some { 0 < (span_at dc line.old).count }
-    requires line { (own slot : ℕ) × IsLine rows.old.slots own (length line.old.waits.items) slot line.old }
+    requires line { (own slot : ℕ)
+        × IsLine rows.old.slots own (length line.old.waits.items) slot line.old }
     requires needed { IsNeeded line.old }
     ensures needed { IsNeeded line.new }
-    ensures shorter { (own slot : ℕ) → IsLine rows.old.slots own (length line.old.waits.items) slot line.old → IsShorter rows.old.slots rows.new.slots own slot dc line.old line.new }
+    ensures shorter { (own slot : ℕ) →
+        IsLine rows.old.slots own (length line.old.waits.items) slot line.old →
+        IsShorter rows.old.slots rows.new.slots own slot dc line.old line.new }
 {
     line.waits[dc] = shortened(rows, line.waits[dc]);
     if !is_waited_for(&line.waits, line.kept.count) {
@@ -176,7 +186,8 @@ pub(crate) fn pass(rows: &mut Slab<Row>, line: &mut Line, dc: usize)
 
 // Leaves no row waiting for any data centre.
 fn forget_all(waits: &mut [Span])
-    ensures { (dc : ℕ) (d : Span) → dc < length waits.old → slice_index_or waits.new dc d ≡ nowhere }
+    ensures { (dc : ℕ) (d : Span) → dc < length waits.old →
+        slice_index_or waits.new dc d ≡ nowhere }
 {
     for dc in 0..waits.len() {
         waits[dc] = Span { first: 0, count: 0 };
@@ -185,8 +196,11 @@ fn forget_all(waits: &mut [Span])
 
 // Removes all rows of a line from the table.
 pub(crate) fn clear(rows: &mut Slab<Row>, line: &mut Line)
-    requires line { (own slot : ℕ) × IsLine rows.old.slots own (length line.old.waits.items) slot line.old }
-    ensures cleared { (own slot : ℕ) → IsLine rows.old.slots own (length line.old.waits.items) slot line.old → IsCleared rows.old.slots rows.new.slots own slot line.old line.new }
+    requires line { (own slot : ℕ)
+        × IsLine rows.old.slots own (length line.old.waits.items) slot line.old }
+    ensures cleared { (own slot : ℕ) →
+        IsLine rows.old.slots own (length line.old.waits.items) slot line.old →
+        IsCleared rows.old.slots rows.new.slots own slot line.old line.new }
 {
     forget_all(&mut line.waits);
     for _row in 0..line.kept.count {
@@ -197,7 +211,8 @@ pub(crate) fn clear(rows: &mut Slab<Row>, line: &mut Line)
 // Returns the first entry that waits for a data centre.
 pub(crate) fn first<'a>(rows: &'a Slab<Row>, line: &Line, dc: usize) -> Option<&'a Entry>
     requires dc { dc < length line.now.waits.items }
-    requires line { (own slot : ℕ) × IsLine rows.now.slots own (length line.now.waits.items) slot line.now }
+    requires line { (own slot : ℕ)
+        × IsLine rows.now.slots own (length line.now.waits.items) slot line.now }
     ensures { option_copied result ≡ front (entries_in rows.now.slots (span_at dc line.now)) }
 {
     let span = line.waits[dc];
@@ -211,7 +226,8 @@ pub(crate) fn first<'a>(rows: &'a Slab<Row>, line: &Line, dc: usize) -> Option<&
 // Returns `true` if the first entry that waits for a data centre has this version.
 pub(crate) fn is_first(rows: &Slab<Row>, line: &Line, dc: usize, version: Version) -> bool
     requires dc { dc < length line.now.waits.items }
-    requires line { (own slot : ℕ) × IsLine rows.now.slots own (length line.now.waits.items) slot line.now }
+    requires line { (own slot : ℕ)
+        × IsLine rows.now.slots own (length line.now.waits.items) slot line.now }
     ensures { result ≡ is_front version (front (entries_in rows.now.slots (span_at dc line.now))) }
 {
     match first(rows, line, dc) {
@@ -231,7 +247,9 @@ pub(crate) fn count(line: &Line, dc: usize) -> usize
 
 // Returns `true` if `limit` entries wait for a data centre except the own.
 pub(crate) fn is_any_full(waits: &[Span], own: u64, limit: u64) -> bool
-    ensures { result ≡ list_any (λ dc. not (dc == own) && nat_le limit (slice_index_or waits.now dc nowhere).count) (range_with_len 0 (length waits.now)) }
+    ensures { result ≡ list_any
+        (λ dc. not (dc == own) && nat_le limit (slice_index_or waits.now dc nowhere).count)
+        (range_with_len 0 (length waits.now)) }
 {
     for (dc, span) in waits.iter().enumerate() {
         if dc as u64 != own && span.count as u64 >= limit {

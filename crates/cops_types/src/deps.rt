@@ -283,7 +283,8 @@ impl Deps {
     /// `limit`.
     pub fn add(&mut self, pair: Pair, limit: u64) -> Result<(), RequestError>
         ensures ok { OnOk result (self.new ≡ joined self.old (pair ∷ [])) }
-        ensures refused { AnswersUnless (refused_if (is_over limit (joined self.old (pair ∷ []))) DependenciesFull) result }
+        ensures refused { AnswersUnless
+            (refused_if (is_over limit (joined self.old (pair ∷ []))) DependenciesFull) result }
         ensures err { OnErr result (self.new ≡ self.old) }
     {
         let alloc = self.packed().allocator();
@@ -297,7 +298,8 @@ impl Deps {
     /// list would exceed `limit`.
     pub fn join(&mut self, other: &Deps, limit: u64) -> Result<(), RequestError>
         ensures ok { OnOk result (self.new ≡ joined self.old other.now) }
-        ensures refused { AnswersUnless (refused_if (is_over limit (joined self.old other.now)) DependenciesFull) result }
+        ensures refused { AnswersUnless
+            (refused_if (is_over limit (joined self.old other.now)) DependenciesFull) result }
         ensures err { OnErr result (self.new ≡ self.old) }
     {
         let alloc = self.packed().allocator();

@@ -26,7 +26,8 @@ pub(crate) fn order_of_fronts(cells: &[u8], others: &[u8], second: usize) -> Ord
     requires second { second ≤ 8 }
     requires cells { second + 8 ≤ length cells.now }
     requires others { second + 8 ≤ length others.now }
-    ensures { result ≡ slice_cmp nat_cmp (take (second + 8) cells.now) (take (second + 8) others.now) }
+    ensures { result
+        ≡ slice_cmp nat_cmp (take (second + 8) cells.now) (take (second + 8) others.now) }
 {
     match word_at(cells, 0).cmp(&word_at(others, 0)) {
         Ordering::Equal => word_at(cells, second).cmp(&word_at(others, second)),
@@ -42,7 +43,8 @@ pub(crate) fn order_of_words(cells: &[u8], others: &[u8], words: usize) -> Order
     requires cells { words * 8 ≤ length cells.now }
     requires others { words * 8 ≤ length others.now }
     requires front { slice_cmp nat_cmp (take 16 cells.now) (take 16 others.now) ≡ Equal }
-    ensures { result ≡ slice_cmp nat_cmp (take (words * 8) cells.now) (take (words * 8) others.now) }
+    ensures { result
+        ≡ slice_cmp nat_cmp (take (words * 8) cells.now) (take (words * 8) others.now) }
 {
     let mut word = 2;
     while word < words {

@@ -265,7 +265,8 @@ impl GrowingPairs {
         ensures within { IsSearchInRange result (length self.now.pairs) }
         ensures place { MatchResult result
             (HoldsAt (λ p. key_cmp p.key key.now ≡ Equal) self.now.pairs)
-            (IsPartitionPoint (λ p. key_cmp p.key key.now ≡ Less) (λ p. key_cmp p.key key.now ≡ Greater) self.now.pairs) }
+            (IsPartitionPoint (λ p. key_cmp p.key key.now ≡ Less)
+            (λ p. key_cmp p.key key.now ≡ Greater) self.now.pairs) }
     {
         match &self.rows {
             GrowingRows::Short(pairs) => pair_lists::place_of(pairs.as_slice(), key),
@@ -279,7 +280,8 @@ impl GrowingPairs {
         ensures within { IsSearchInRange result (length self.now.pairs) }
         ensures place { MatchResult result
             (HoldsAt (λ p. pair_cmp p pair.now ≡ Equal) self.now.pairs)
-            (IsPartitionPoint (λ p. pair_cmp p pair.now ≡ Less) (λ p. pair_cmp p pair.now ≡ Greater) self.now.pairs) }
+            (IsPartitionPoint (λ p. pair_cmp p pair.now ≡ Less)
+            (λ p. pair_cmp p pair.now ≡ Greater) self.now.pairs) }
     {
         match &self.rows {
             GrowingRows::Short(pairs) => pair_lists::place_of_pair(pairs.as_slice(), pair),
@@ -319,7 +321,8 @@ impl GrowingPairs {
         requires { IsDeps self.old.pairs }
         ensures ok { OnOk result (self.new.pairs ≡ joined self.old.pairs (pair.now ∷ [])) }
         ensures in_order { IsDeps self.new.pairs }
-        ensures refused { AnswersUnless (refused_if (is_over limit (joined self.old.pairs (pair.now ∷ []))) Fault.DependenciesFull) result }
+        ensures refused { AnswersUnless (refused_if
+            (is_over limit (joined self.old.pairs (pair.now ∷ []))) Fault.DependenciesFull) result }
     {
         self.reserve_for(&pair.key)?;
         let _ = self.put_reserved(pair);
@@ -343,8 +346,10 @@ impl GrowingPairs {
     /// Returns `true` if pairs with one version for each key have the key at exactly this version.
     pub(crate) fn has_version(&self, key: &Key, version: Version) -> bool
         requires { IsDeps self.now.pairs }
-        ensures known { result ≡ holds self.now.pairs (record { key = key.now; version = version }) }
-        ensures same { IsTrue result → self.now.pairs ≡ joined self.now.pairs (record { key = key.now; version = version } ∷ []) }
+        ensures known { result
+            ≡ holds self.now.pairs (record { key = key.now; version = version }) }
+        ensures same { IsTrue result → self.now.pairs
+            ≡ joined self.now.pairs (record { key = key.now; version = version } ∷ []) }
     {
         match self.place_of(key) {
             Ok(place) => self.version(place) == version,
@@ -445,7 +450,8 @@ impl GrowingPairs {
         requires more { IsDeps more.now }
         ensures ok { OnOk result (self.new.pairs ≡ joined self.old.pairs more.now) }
         ensures in_order { IsDeps self.new.pairs }
-        ensures refused { AnswersUnless (refused_if (is_over limit (joined self.old.pairs more.now)) Fault.DependenciesFull) result }
+        ensures refused { AnswersUnless (refused_if (is_over limit (joined self.old.pairs more.now))
+            Fault.DependenciesFull) result }
         ensures err { OnErr result (self.new ≡ self.old) }
     {
         let list = self.joined_with(more)?;
@@ -497,7 +503,8 @@ impl GrowingPairs {
         requires { IsNear self.old.pairs }
         ensures ok { OnOk result (self.new.pairs ≡ add_item pair_cmp pair.now self.old.pairs) }
         ensures in_order { IsNear self.new.pairs }
-        ensures refused { AnswersUnless (refused_if (is_over limit (add_item pair_cmp pair.now self.old.pairs)) Fault.DependenciesFull) result }
+        ensures refused { AnswersUnless (refused_if (is_over limit
+            (add_item pair_cmp pair.now self.old.pairs)) Fault.DependenciesFull) result }
         ensures err { OnErr result (self.new ≡ self.old) }
     {
         let len = self.len() as u64;

@@ -26,14 +26,16 @@ const GREATEST_QUOTA: u64 = 4294967295;
 fn next_number(words: &mut Words) -> Option<u64>
     ensures some { IfSome result (λ n. words.old ≡ decimal n ∷ words.new) }
     ensures small { IfSome result (λ n. IsTrue (is_u64 n)) }
-    ensures none { IfNone result ((n : ℕ) (rest : List (List ℕ)) → IsTrue (is_u64 n) → words.old ≡ decimal n ∷ rest → ⊥) }
+    ensures none { IfNone result
+        ((n : ℕ) (rest : List (List ℕ)) → IsTrue (is_u64 n) → words.old ≡ decimal n ∷ rest → ⊥) }
 {
     parse_number(words.next_word()?)
 }
 
 /// Returns `true` if a cluster may have these sizes and this many restarts.
 fn are_sizes(data_centres: u64, shards: u64, restarts: u64) -> bool
-    ensures { result ≡ (is_between 1 8 data_centres && is_between 1 most_shards shards && nat_le restarts 15) }
+    ensures { result
+        ≡ (is_between 1 8 data_centres && is_between 1 most_shards shards && nat_le restarts 15) }
 {
     1 <= data_centres
         && data_centres <= 8
@@ -92,8 +94,10 @@ fn is_quota(quota: &Quota) -> bool
 
 /// Returns the quota that exactly these words give.
 fn last_quota(words: &mut Words) -> Option<Quota>
-    ensures some { IfSome result (λ quota. (words.old ≡ quota_words quota) × IsTrue (is_quota quota)) }
-    ensures none { IfNone result ((quota : Quota) → IsTrue (is_quota quota) → words.old ≡ quota_words quota → ⊥) }
+    ensures some { IfSome result
+        (λ quota. (words.old ≡ quota_words quota) × IsTrue (is_quota quota)) }
+    ensures none { IfNone result
+        ((quota : Quota) → IsTrue (is_quota quota) → words.old ≡ quota_words quota → ⊥) }
 {
     let quota = Quota {
         versions: next_number(words)?,
@@ -116,7 +120,8 @@ fn last_quota(words: &mut Words) -> Option<Quota>
 /// Returns the tenant that exactly these words give, if its first clock is at most `last_clock`.
 pub fn last_tenant(words: &mut Words, last_clock: u64) -> Option<Tenant>
     ensures some { IfSome result (AreTenantWords last_clock words.old) }
-    ensures none { IfNone result ((tenant : Tenant) → AreTenantWords last_clock words.old tenant → ⊥) }
+    ensures none { IfNone result
+        ((tenant : Tenant) → AreTenantWords last_clock words.old tenant → ⊥) }
 {
     let Ok(name) = Name::new(words.next_word()?) else {
         return None;
@@ -140,7 +145,8 @@ pub fn last_tenant(words: &mut Words, last_clock: u64) -> Option<Tenant>
 /// Returns the tenant that a line gives, with a first clock up to this one.
 fn tenant_of(line: &[u8], last_clock: u64) -> Option<Tenant>
     ensures some { IfSome result (IsTenantLineTo last_clock line.now) }
-    ensures none { IfNone result ((tenant : Tenant) → IsTenantLineTo last_clock line.now tenant → ⊥) }
+    ensures none { IfNone result
+        ((tenant : Tenant) → IsTenantLineTo last_clock line.now tenant → ⊥) }
 {
     let mut words = Words::of(line);
     if words.next_word()? != b"tenant".as_slice() {
@@ -166,7 +172,8 @@ fn may_join(config: &Config, tenant: &Tenant) -> bool
 /// Gives the next slot to the tenant of a line, if it may join and its first clock is at most
 /// `last_clock`.
 pub(crate) fn join(config: &mut Config, line: &[u8], last_clock: u64) -> Result<bool, AllocError>
-    ensures ok { IfOk result (λ has_joined. JoinsOrStays config.old (tenant_in_to last_clock line.now) config.new has_joined) }
+    ensures ok { IfOk result (λ has_joined.
+        JoinsOrStays config.old (tenant_in_to last_clock line.now) config.new has_joined) }
     ensures err { OnErr result (config.new ≡ config.old) }
 {
     let Some(tenant) = read_tenant(line, last_clock) else {

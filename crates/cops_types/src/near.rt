@@ -220,7 +220,8 @@ impl Near {
     /// Adds a pair, unless it is there already. Is refused if the list would exceed `limit`.
     pub fn add(&mut self, pair: Pair, limit: u64) -> Result<(), RequestError>
         ensures ok { OnOk result (self.new ≡ add_item pair_cmp pair self.old) }
-        ensures refused { AnswersUnless (refused_if (is_over limit (add_item pair_cmp pair self.old)) DependenciesFull) result }
+        ensures refused { AnswersUnless
+            (refused_if (is_over limit (add_item pair_cmp pair self.old)) DependenciesFull) result }
         ensures err { OnErr result (self.new ≡ self.old) }
     {
         let alloc = self.packed().allocator();

@@ -102,7 +102,8 @@ impl NearBuilder {
     /// Adds a pair, unless it is there already. Is refused if the list would exceed `limit`.
     pub fn add(&mut self, pair: Pair, limit: u64) -> Result<(), RequestError>
         ensures ok { OnOk result (self.new.pairs ≡ add_item pair_cmp pair self.old.pairs) }
-        ensures refused { AnswersUnless (refused_if (is_over limit (add_item pair_cmp pair self.old.pairs)) DependenciesFull) result }
+        ensures refused { AnswersUnless (refused_if
+            (is_over limit (add_item pair_cmp pair self.old.pairs)) DependenciesFull) result }
         ensures err { OnErr result (self.new ≡ self.old) }
     {
         self.pairs.put_near(&pair, limit)

@@ -102,10 +102,14 @@ fn note(
     slot: usize,
 ) -> Result<(), AllocError>
     ensures name { IsName tenant.now.name }
-    ensures names { OnOk result ((name : List ℕ) → get key_eq names.new name ≡ cond (key_eq tenant.now.name name) (Some slot) (get key_eq names.old name)) }
-    ensures tokens { OnOk result ((token : List ℕ) → get key_eq tokens.new token ≡ cond (key_eq tenant.now.token token) (Some slot) (get key_eq tokens.old token)) }
-    ensures same_names { OnErr result ((name : List ℕ) → get key_eq names.new name ≡ get key_eq names.old name) }
-    ensures same_tokens { OnErr result ((token : List ℕ) → get key_eq tokens.new token ≡ get key_eq tokens.old token) }
+    ensures names { OnOk result ((name : List ℕ) → get key_eq names.new name
+        ≡ cond (key_eq tenant.now.name name) (Some slot) (get key_eq names.old name)) }
+    ensures tokens { OnOk result ((token : List ℕ) → get key_eq tokens.new token
+        ≡ cond (key_eq tenant.now.token token) (Some slot) (get key_eq tokens.old token)) }
+    ensures same_names { OnErr result
+        ((name : List ℕ) → get key_eq names.new name ≡ get key_eq names.old name) }
+    ensures same_tokens { OnErr result
+        ((token : List ℕ) → get key_eq tokens.new token ≡ get key_eq tokens.old token) }
 {
     let name = name_of(tenant);
     names.reserve(1)?;
@@ -140,8 +144,10 @@ fn forget(
     tokens: &mut IndexMap<[u8; 16], usize>,
     tenant: &Tenant,
 )
-    ensures names { (name : List ℕ) → get key_eq names.new name ≡ cond (key_eq tenant.now.name name) None (get key_eq names.old name) }
-    ensures tokens { (token : List ℕ) → get key_eq tokens.new token ≡ cond (key_eq tenant.now.token token) None (get key_eq tokens.old token) }
+    ensures names { (name : List ℕ) → get key_eq names.new name
+        ≡ cond (key_eq tenant.now.name name) None (get key_eq names.old name) }
+    ensures tokens { (token : List ℕ) → get key_eq tokens.new token
+        ≡ cond (key_eq tenant.now.token token) None (get key_eq tokens.old token) }
 {
     let _slot = names.swap_remove(&tenant.name);
     let _same = tokens.swap_remove(tenant.token.as_bytes());
@@ -302,8 +308,10 @@ impl OpenTenants {
     /// only otherwise.
     pub fn admit_at(&mut self, slot: u64, tenant: Tenant) -> Result<(), RequestError>
         ensures ok { OnOk result (self.new ≡ slice_set self.old slot (Some tenant)) }
-        ensures refused { IfSome (admission_refusal self.old slot tenant) (λ fault. result ≡ Err (Refused fault)) }
-        ensures faults { IfRefusal result (λ fault. admission_refusal self.old slot tenant ≡ Some fault) }
+        ensures refused { IfSome (admission_refusal self.old slot tenant)
+            (λ fault. result ≡ Err (Refused fault)) }
+        ensures faults { IfRefusal result
+            (λ fault. admission_refusal self.old slot tenant ≡ Some fault) }
         ensures err { OnErr result (self.new ≡ self.old) }
     {
         if let Some(fault) = self.refusal(slot, &tenant) {

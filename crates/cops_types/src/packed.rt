@@ -278,7 +278,8 @@ fn place_among_short(pairs: &[ShortPair], key: &Key) -> Result<usize, usize>
     ensures within { IsSearchInRange result (length pairs.now) }
     ensures place { MatchResult result
         (HoldsAt (λ p. key_cmp p.key key.now ≡ Equal) pairs.now)
-        (IsPartitionPoint (λ p. key_cmp p.key key.now ≡ Less) (λ p. key_cmp p.key key.now ≡ Greater) pairs.now) }
+        (IsPartitionPoint (λ p. key_cmp p.key key.now ≡ Less)
+        (λ p. key_cmp p.key key.now ≡ Greater) pairs.now) }
 {
     pairs.binary_search_by(|pair| pair.key_order(key))
 }
@@ -543,7 +544,8 @@ impl PackedPairs {
         ensures within { IsSearchInRange result (length self.now) }
         ensures place { MatchResult result
             (HoldsAt (λ p. key_cmp p.key key.now ≡ Equal) self.now)
-            (IsPartitionPoint (λ p. key_cmp p.key key.now ≡ Less) (λ p. key_cmp p.key key.now ≡ Greater) self.now) }
+            (IsPartitionPoint (λ p. key_cmp p.key key.now ≡ Less)
+            (λ p. key_cmp p.key key.now ≡ Greater) self.now) }
     {
         match &self.rows {
             Rows::One(pair) => place_among_short(slice::from_ref(pair), key),

@@ -36,7 +36,8 @@ impl Seeds {
 
     /// Returns seeds that depend on the tokens of all these tenants.
     pub fn of_tokens(tenants: &[Tenant]) -> Self
-        ensures { let tokens = map (λ tenant. tenant.token) tenants.now in result ≡ start_of (digest 1 tokens) (digest 2 tokens) }
+        ensures { let tokens = map (λ tenant. tenant.token) tenants.now in
+            result ≡ start_of (digest 1 tokens) (digest 2 tokens) }
     {
         Seeds::new(digest(tenants, 1), digest(tenants, 2))
     }

@@ -33,7 +33,8 @@ impl<'a> Model for Words<'a> {
 /// Returns the bytes before the first space, and those after it if there is one.
 pub fn split_word(bytes: &[u8]) -> (&[u8], Option<&[u8]>)
     ensures word { result.0.now ≡ first_word bytes.now }
-    ensures parts { parts_at space bytes.now ≡ result.0.now ∷ option_map_or (λ rest. parts_at space rest.now) result.1 [] }
+    ensures parts { parts_at space bytes.now
+        ≡ result.0.now ∷ option_map_or (λ rest. parts_at space rest.now) result.1 [] }
 {
     match split_at_space(bytes) {
         Some((word, rest)) => (word, Some(rest)),
@@ -63,7 +64,8 @@ fn place_of_space(bytes: &[u8]) -> Option<usize>
 
 /// Returns the bytes before the first space, and those after it.
 pub fn split_at_space(bytes: &[u8]) -> Option<(&[u8], &[u8])>
-    ensures some { IfSome result (λ parts. IsUnspaced parts.0.now × (bytes.now ≡ parts.0.now ++ 32 ∷ parts.1.now)) }
+    ensures some { IfSome result
+        (λ parts. IsUnspaced parts.0.now × (bytes.now ≡ parts.0.now ++ 32 ∷ parts.1.now)) }
     ensures none { IfNone result (IsUnspaced bytes.now) }
 {
     let at = place_of_space(bytes)?;
@@ -75,7 +77,8 @@ pub fn split_at_space(bytes: &[u8]) -> Option<(&[u8], &[u8])>
 pub(crate) fn behind_space(bytes: &[u8], at: usize) -> Option<&[u8]>
     requires { at ≤ length bytes.now }
     ensures some { IfSome result (λ rest. bytes.now ≡ take at bytes.now ++ 32 ∷ rest.now) }
-    ensures none { IfNone result ((word rest : List ℕ) → length word ≡ at → bytes.now ≡ word ++ 32 ∷ rest → ⊥) }
+    ensures none { IfNone result
+        ((word rest : List ℕ) → length word ≡ at → bytes.now ≡ word ++ 32 ∷ rest → ⊥) }
 {
     if at == bytes.len() {
         return None;
@@ -130,7 +133,8 @@ fn digits_at_front(bytes: &[u8]) -> (u64, usize)
     ensures small { result.0 < 2 ^ 64 }
     ensures digits { AllDigits 10 (take result.1 bytes.now) }
     ensures value { result.0 ≡ digits_value 10 (take result.1 bytes.now) }
-    ensures ends { result.1 < 19 → result.1 < length bytes.now → is_ascii_digit (slice_index bytes.now result.1) ≡ false }
+    ensures ends { result.1 < 19 → result.1 < length bytes.now →
+        is_ascii_digit (slice_index bytes.now result.1) ≡ false }
 {
     let most = bytes.len().min(SURE_DIGITS);
     let mut value = 0;
@@ -147,8 +151,10 @@ fn digits_at_front(bytes: &[u8]) -> (u64, usize)
 /// Returns the number at the start, up to a space, and the bytes after the space.
 #[inline(always)]
 pub fn number_at_front(bytes: &[u8]) -> Option<(u64, &[u8])>
-    ensures some { IfSome result (λ parts. IsTrue (is_u64 parts.0) × (bytes.now ≡ decimal parts.0 ++ 32 ∷ parts.1.now)) }
-    ensures none { IfNone result ((n : ℕ) (rest : List ℕ) → IsTrue (is_u64 n) → bytes.now ≡ decimal n ++ 32 ∷ rest → ⊥) }
+    ensures some { IfSome result
+        (λ parts. IsTrue (is_u64 parts.0) × (bytes.now ≡ decimal parts.0 ++ 32 ∷ parts.1.now)) }
+    ensures none { IfNone result
+        ((n : ℕ) (rest : List ℕ) → IsTrue (is_u64 n) → bytes.now ≡ decimal n ++ 32 ∷ rest → ⊥) }
 {
     let (value, len) = digits_at_front(bytes);
     if len == SURE_DIGITS {
@@ -167,8 +173,10 @@ pub fn number_at_front(bytes: &[u8]) -> Option<(u64, &[u8])>
 /// Does the same for any number.
 #[inline(never)]
 fn long_number_at_front(bytes: &[u8]) -> Option<(u64, &[u8])>
-    ensures some { IfSome result (λ parts. IsTrue (is_u64 parts.0) × (bytes.now ≡ decimal parts.0 ++ 32 ∷ parts.1.now)) }
-    ensures none { IfNone result ((n : ℕ) (rest : List ℕ) → IsTrue (is_u64 n) → bytes.now ≡ decimal n ++ 32 ∷ rest → ⊥) }
+    ensures some { IfSome result
+        (λ parts. IsTrue (is_u64 parts.0) × (bytes.now ≡ decimal parts.0 ++ 32 ∷ parts.1.now)) }
+    ensures none { IfNone result
+        ((n : ℕ) (rest : List ℕ) → IsTrue (is_u64 n) → bytes.now ≡ decimal n ++ 32 ∷ rest → ⊥) }
 {
     let (word, rest) = split_at_space(bytes)?;
     let number = parse_number(word)?;
@@ -185,7 +193,8 @@ impl<'a> Words<'a> {
 
     /// Removes and returns the next word. Between two adjacent spaces it is empty.
     pub fn next_word(&mut self) -> Option<&'a [u8]>
-        ensures { MatchOption result ((self.old ≡ []) × (self.new ≡ [])) (λ word. self.old ≡ word.now ∷ self.new) }
+        ensures { MatchOption result ((self.old ≡ []) × (self.new ≡ []))
+            (λ word. self.old ≡ word.now ∷ self.new) }
     {
         let (word, rest) = split_word(self.rest?);
         self.rest = rest;
@@ -210,7 +219,8 @@ impl<'a> Words<'a> {
 
 /// Returns the number that decimal digits write, if it is below 2 to the 64.
 fn value_of(word: &[u8]) -> Option<u64>
-    ensures some { IfSome result (λ n. (n < 2 ^ 64) × AllDigits 10 word.now × (n ≡ digits_value 10 word.now)) }
+    ensures some { IfSome result
+        (λ n. (n < 2 ^ 64) × AllDigits 10 word.now × (n ≡ digits_value 10 word.now)) }
     ensures none { IfNone result (AllDigits 10 word.now → 2 ^ 64 ≤ digits_value 10 word.now) }
 {
     if word.len() > SURE_DIGITS {
@@ -229,7 +239,8 @@ fn value_of(word: &[u8]) -> Option<u64>
 /// Does the same for more digits, which may write a greater number.
 #[inline(never)]
 fn value_of_many(word: &[u8]) -> Option<u64>
-    ensures some { IfSome result (λ n. (n < 2 ^ 64) × AllDigits 10 word.now × (n ≡ digits_value 10 word.now)) }
+    ensures some { IfSome result
+        (λ n. (n < 2 ^ 64) × AllDigits 10 word.now × (n ≡ digits_value 10 word.now)) }
     ensures none { IfNone result (AllDigits 10 word.now → 2 ^ 64 ≤ digits_value 10 word.now) }
 {
     let mut value = 0;
@@ -241,7 +252,8 @@ fn value_of_many(word: &[u8]) -> Option<u64>
 
 /// Returns the number with one more digit at its end, if it is below 2 to the 64.
 fn with_digit(value: u64, byte: u8) -> Option<u64>
-    ensures some { IfSome result (λ n. (48 ≤ byte) × (byte ≤ 57) × (n ≡ value * 10 + (byte - 48)) × (n < 2 ^ 64)) }
+    ensures some { IfSome result
+        (λ n. (48 ≤ byte) × (byte ≤ 57) × (n ≡ value * 10 + (byte - 48)) × (n < 2 ^ 64)) }
     ensures none { IfNone result (48 ≤ byte → byte ≤ 57 → 2 ^ 64 ≤ value * 10 + (byte - 48)) }
 {
     if !byte.is_ascii_digit() {
