@@ -11,7 +11,10 @@ ghost use Rattle.cops_causal.specs.CallBounds.{MakesFewCalls, SteppedAt, StepsMa
 /// whatever the nodes reply. The call that brings the answer counts. This holds of each log of a
 /// request's steps, and of each run of `Session::step` from the beginning of a request.
 pub fn requests_make_few_calls()
-    ensures of_a_log { (config : TenantConfig) (request : Request) (log : List LogStep) → MakesFewCalls config request log }
-    ensures of_steps { (config : TenantConfig) (old : KeptSession) (session : Session) (running : Running) (steps : List SteppedAt) (calls : ℕ) →
-        SessionStandsFor config old session → session.running ≡ Some running → running.log ≡ [] → StepsMake old steps calls → calls ≤ most_calls config running.action }
+    ensures of_a_log { (config : TenantConfig) (request : Request) (log : List LogStep) →
+        MakesFewCalls config request log }
+    ensures of_steps { (config : TenantConfig) (old : KeptSession) (session : Session)
+        (running : Running) (steps : List SteppedAt) (calls : ℕ) →
+        SessionStandsFor config old session → session.running ≡ Some running → running.log ≡ [] →
+        StepsMake old steps calls → calls ≤ most_calls config running.action }
 {}
