@@ -18,6 +18,12 @@ pub record Origin (M : Type 0) : Type 0 where
   pub opening : List M
   pub ticket : ℕ
 
+-- no gate
+abbrev pub no_gate : {M : Type 0} → Origin M
+no_gate =
+    let table : TableId = record { words = 0; slots = 0; views_name = 0; atom = 0; block = 0; offset = 0; slot_names = [] } in
+    record { table = table; opening = []; ticket = 0 }
+
 -- the same as its seats know it
 pub record GateHome (M : Type 0) : Type 0 where
   pub table : TableId
@@ -34,6 +40,11 @@ pub record Known (M C R : Type 0) : Type 0 where
   pub history : List (Turn C R)
   pub spent : List ℕ
   pub account : Account
+
+-- what a witness tells: the gate, and the history of all nodes that a seat had seen
+pub record Testimony (M C R : Type 0) : Type 0 where
+  pub gate : GateHome M
+  pub history : List (Turn C R)
 
 -- the seat, after one was split off from it
 abbrev pub split_off : {M C R : Type 0} → Known M C R → Known M C R

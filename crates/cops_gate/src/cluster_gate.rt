@@ -12,8 +12,8 @@ ghost use Rattle.cops_gate.specs.declared.board.Stage.TheVariants.{Idle};
 ghost use Rattle.cops_gate.specs.History.{entry, turns_of, StartsWith, IsWhole, LeavesLacking};
 ghost use Rattle.cops_gate.specs.Rule.{AreServed, Met, serving_at, ticket_at};
 ghost use Rattle.cops_gate.specs.Plays.{HasRoom, IsTableFor};
-ghost use Rattle.cops_gate.specs.Accounts.{IsComplete, fork_of};
-ghost use Rattle.cops_gate.specs.Seats.{AreAtRest, ClosesWith, Extends, HasAllOf, IsAtRest, Known, Origin, all_joined, all_spent, first_seat, gate_home, joined_by, split_off};
+ghost use Rattle.cops_gate.specs.Accounts.{IsComplete, fork_of, no_account};
+ghost use Rattle.cops_gate.specs.Seats.{AreAtRest, ClosesWith, Extends, HasAllOf, IsAtRest, Known, Origin, Testimony, all_joined, all_spent, first_seat, gate_home, joined_by, split_off};
 
 use crate::board::{Beginning, Board, BoardSeat};
 use crate::meetings::{end, fork, hear, learn, note};
@@ -55,6 +55,20 @@ impl<M: Machine> Model for ClusterSeat<M> {
     ghost view = { λ s. record { gate = record { table = s.place.table_id; opening = s.place.me.0.opening }; number = s.place.me.0.number; history = s.place.me.0.seen; spent = s.place.me.0.spent; account = s.place.me.0.account } };
 
     ghost invariant = { λ s. (s.place.me.1 ≡ []) × (s.place.me.0.stage ≡ Idle) × (s.place.me.0.numbered ≡ true) };
+}
+
+/// A witness of all that a seat had seen when it was made. It tells other seats, makes no turn, and no seat counts it. Contracts
+/// see the gate and the history.
+pub struct Witness<M: Machine> {
+    place: BoardSeat<M>,
+}
+
+impl<M: Machine> Model for Witness<M> {
+    ghost Value = { Testimony M M.Call M.Reply };
+
+    ghost view = { λ w. record { gate = record { table = w.place.table_id; opening = w.place.me.0.opening }; history = w.place.me.0.seen } };
+
+    ghost invariant = { λ w. (w.place.me.1 ≡ []) × (w.place.me.0.stage ≡ Idle) × (w.place.me.0.numbered ≡ false) × (w.place.me.0.is_seat ≡ false) × (w.place.me.0.account ≡ no_account) };
 }
 
 impl<M: Machine> ClusterGate<M> {
@@ -199,6 +213,38 @@ impl<M: Machine> ClusterGate<M> {
     {
         let told = note(&self.board, &mut from.place);
         hear(&self.board, &mut to.place, told);
+    }
+
+    /// Returns a witness of all that the seat has seen.
+    pub fn witness(&self, seat: &mut ClusterSeat<M>) -> Witness<M>
+        requires { seat.old.gate ≡ gate_home self.now }
+        ensures same { seat.new ≡ seat.old }
+        ensures witness { (result.gate ≡ seat.old.gate) × (result.history ≡ seat.old.history) }
+    {
+        Witness {
+            place: note(&self.board, &mut seat.place),
+        }
+    }
+
+    /// Lets the seat see all that the witness tells, at all nodes (join).
+    pub fn tell(&self, witness: &mut Witness<M>, seat: &mut ClusterSeat<M>)
+        requires witness { witness.old.gate ≡ gate_home self.now }
+        requires seat { seat.old.gate ≡ gate_home self.now }
+        ensures witness { witness.new ≡ witness.old }
+        ensures same { (seat.new.gate ≡ seat.old.gate) × (seat.new.number ≡ seat.old.number)
+            × (seat.new.spent ≡ seat.old.spent) }
+        ensures account { seat.new.account ≡ seat.old.account }
+        ensures seen { StartsWith seat.new.history witness.old.history
+            × StartsWith seat.new.history seat.old.history }
+        ensures legal { IsWhole M.turns self.now.opening seat.new.history }
+        ensures room { HasRoom seat.new.gate.opening seat.new.history }
+        ensures no_turn { turns_of seat.new.number seat.new.history
+            ≡ turns_of seat.old.number seat.old.history }
+        ensures joined { (j : ℕ) → Met j seat.old.account.joined →
+            turns_of j seat.new.history ≡ turns_of j seat.old.history }
+    {
+        let told = note(&self.board, &mut witness.place);
+        hear(&self.board, &mut seat.place, told);
     }
 
     /// Ends these seats (join). The last one sees all that they have seen, and in its history the
@@ -367,6 +413,12 @@ impl<M: Machine> ClusterSeat<M> {
 impl<M: Machine> Drop for ClusterSeat<M> {
     fn drop(self) {
         let ClusterSeat { place: _ } = self;
+    }
+}
+
+impl<M: Machine> Drop for Witness<M> {
+    fn drop(self) {
+        let Witness { place: _ } = self;
     }
 }
 

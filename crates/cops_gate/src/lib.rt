@@ -18,7 +18,7 @@ mod tests;
 mod turns;
 mod waiting;
 
-pub use cluster_gate::{ClusterGate, ClusterSeat};
+pub use cluster_gate::{ClusterGate, ClusterSeat, Witness};
 pub use gate::{Gate, GateSeat};
 pub use history::{Entry, Turn};
 pub use laws::{histories_are_of_each_node, histories_are_runs_of_the_cluster};
