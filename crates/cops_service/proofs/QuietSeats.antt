@@ -16,7 +16,7 @@ use Rattle.cops_model.specs.declared.calls.NodeId.{NodeId}
 use Rattle.cops_model.specs.declared.calls.NodeReply.{NodeReply}
 use Rattle.cops_model.specs.Place.{node_number}
 use Rattle.cops_node.specs.Hosting.{Hosted}
-use Rattle.cops_service.specs.Gates.{Gates}
+use Rattle.cops_service.specs.Gates.{Gates, HasSeenMore}
 use Rattle.cops_service.specs.Hosted.{HostedEntry, HostedLog}
 use Rattle.cops_service.specs.HostedCrews.{CallsInLife, CarriesLives, CollectsLives, CollectsSomePlace, DeliversSomeLife, life_of_place}
 use Rattle.cops_service.specs.HostedDesks.{HostedSeat}
@@ -63,6 +63,9 @@ call_stays cluster life old new id named moment call reply (answer, reply_is, ca
     ] in
     λ i. (called.same.1 i, made i)
 
+seen_stays : (old new : HostedSeat) → HasSeenMore old new → Stays old new
+seen_stays old new more = λ i. (more.same.1 i, hosts_among (more.no_turn i))
+
 -- ---- what threads do
 
 stays_so : {N K : Type 0} (Step : N → N → Type 0) (at : N → K) → ((old new : N) → Step old new → at new ≡ at old) → (count : ℕ) (old new : N) → Repeats Step count old new → at new ≡ at old
@@ -79,9 +82,9 @@ module _ (config : Config) (cluster : Gates Hosted) where
 
   module _ {M : Type 0} (Gives : M → ℕ → M → Type 0) where
     served_stays : (old new : HostedSeat × M) → ServesInLife config cluster Gives old new → Stays old.0 new.0
-    served_stays old new (inl same) = ap (λ (x : HostedSeat × M). key x.0) same
-    served_stays old new (inr (life, tenant, conversed)) =
-        (converses_there (CallsInLife cluster life) Any key (λ (s : HostedSeat). s) (call_stays cluster life) (any_reply life) (key old.0) Gives (with_tenant_alone config tenant) old.0 new.0 old.1 new.1 refl conversed).0
+    served_stays old new (inl (more, same)) = seen_stays old.0 new.0 more
+    served_stays old new (inr (seen, more, life, tenant, shown, conversed)) =
+        (converses_there (CallsInLife cluster life) Any key (λ (s : HostedSeat). s) (call_stays cluster life) (any_reply life) (key seen) Gives (with_tenant_alone config tenant) seen new.0 old.1 new.1 refl conversed).0 ∙ seen_stays old.0 seen more
 
     worker_stays : (moments : M) (old new : HostedSeat) → ServesLives config cluster Gives moments old new → Stays old new
     worker_stays moments old new (later, (count, all)) = stays_so (ServesInLife config cluster Gives) (λ (x : HostedSeat × M). key x.0) served_stays count (old, moments) (new, later) all

@@ -12,7 +12,8 @@ use Rattle.cops_node.specs.Clusters.{new_nodes, shape_of}
 use Rattle.cops_node.specs.Hosting.{Hosted}
 use Rattle.cops_node.specs.Parts.{Shared}
 use Rattle.cops_service.specs.Conversing.{Converses}
-use Rattle.cops_service.specs.Gates.{Gates, openings}
+use Rattle.cops_service.specs.Admitted.{ShowsLife}
+use Rattle.cops_service.specs.Gates.{Gates, HasSeenMore, openings}
 use Rattle.cops_service.specs.Hosted.{HostedLog}
 use Rattle.cops_service.specs.HostedCrews.{CallsInLife, CarriesLives, CollectsLives, FollowsLine, Hosting}
 use Rattle.cops_service.specs.HostedDesks.{AreHosted, HostedSeat, IsInFirstLives, hosted_node, hosted_shape}
@@ -36,9 +37,11 @@ module _ (config : Config) (cluster : Gates Hosted) where
   abbrev pub ConversesInLife : {M : Type 0} → (M → ℕ → M → Type 0) → Life → Tenant → (HostedSeat × M) → (HostedSeat × M) → Type 0
   ConversesInLife Gives life tenant first last = Converses (CallsInLife cluster life) Gives (with_tenant_alone config tenant) first.0 last.0 first.1 last.1
 
-  -- so it was, in some life; or no call was made
+  -- So it was, in a life of the tenant, as the seat had seen by then. Or no call was made. Meanwhile the seat may have seen more
   abbrev pub ServesInLife : {M : Type 0} → (M → ℕ → M → Type 0) → (HostedSeat × M) → (HostedSeat × M) → Type 0
-  ServesInLife Gives first last = (last ≡ first) ⊎ ((life : Life) × (tenant : Tenant) × ConversesInLife Gives life tenant first last)
+  ServesInLife Gives first last =
+      (HasSeenMore first.0 last.0 × (last.1 ≡ first.1))
+      ⊎ ((seen : HostedSeat) × HasSeenMore first.0 seen × (life : Life) × (tenant : Tenant) × ShowsLife config cluster life tenant seen.history × ConversesInLife Gives life tenant (seen, first.1) last)
 
   -- a worker's seat goes from the first to the second: clients are served, one after another, each in one life
   abbrev pub ServesLives : {M : Type 0} → (M → ℕ → M → Type 0) → M → HostedSeat → HostedSeat → Type 0

@@ -16,6 +16,7 @@ ghost use Rattle.cops_service.specs.Conversing.{Converses};
 ghost use Rattle.cops_service.specs.LifeServed.{ConversesOn};
 
 use crate::lines::{Incoming, Line, Outgoing};
+use crate::residents::Site;
 use crate::watching::{Stay, Watched};
 use cops_node::Nodes;
 use cops_types::{Config, Fault, RequestError, Sink, Source};
@@ -161,12 +162,12 @@ pub(crate) fn serve_in_life<R: Read + Drop, O: Write + Drop, N: Nodes, M: Moment
 }
 
 /// Does the same over a socket, from which these bytes were read before.
-pub(crate) fn serve_watched<C: Wait + Clock, N: Nodes, M: Moments>(
+pub(crate) fn serve_watched<C: Wait + Clock, S: Site, N: Nodes, M: Moments>(
     alloc: Global,
     config: &Config,
     line: &Line<'_, C>,
     bytes: &[u8],
-    stay: Stay<'_, C>,
+    stay: Stay<'_, C, S>,
     nodes: &mut N,
     moments: &mut M,
 ) -> Result<Ended, RequestError>

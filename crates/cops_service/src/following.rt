@@ -1,14 +1,15 @@
 //! What the host's lines do at a running cluster.
-ghost use Rattle.std.specs.Prelude.{◌≡◌, ◌≤◌};
+ghost use Rattle.std.specs.Prelude.{◌≡◌, ◌<◌, ◌≤◌, length};
 ghost use Rattle.cops_types.specs.OpenSlots.{open_slot_of_name};
 ghost use Rattle.cops_types.specs.Version.{last_clock};
 ghost use Rattle.cops_service.specs.Calling.{DoneForEach};
+ghost use Rattle.cops_service.specs.Gates.{openings};
 ghost use Rattle.cops_service.specs.HostedCrews.{FollowsLine, IsLineTold, IsTenantLineTold};
 ghost use Rattle.cops_service.specs.Rosters.{IsAdmissionTold, IsCloseTold};
 
 use crate::host_lines::HostLine;
 use crate::reports::HostReports;
-use crate::residents::{Resident, Residents};
+use crate::residents::{Resident, Residents, Site};
 use crate::stops::Stop;
 use crate::tenant_host::TenantHost;
 use cops_model::HostReply;
@@ -17,13 +18,16 @@ use std::sync::Wait;
 use std::time::Clock;
 
 // Admits a tenant. Clients are greeted as the tenant once all nodes have it.
-fn admit<R: Wait>(
+#[tactic(auto, using(crate::proofs::Admitted::shown_everywhere))]
+fn admit<R: Wait, S: Site>(
     rt: &R,
-    residents: &Residents,
+    residents: &Residents<S>,
     host: &mut TenantHost<'_, R>,
     tenant: Tenant,
 ) -> HostReply
     requires clock { tenant.first_clock ≤ last_clock }
+    requires site { host.old.desk.cluster.now ≡ S.cluster }
+    requires nodes { 0 < length (openings host.old.desk.cluster.now) }
     ensures cluster { host.new.desk.cluster.now ≡ host.old.desk.cluster.now }
     ensures seat { host.new.desk.seat.ghost_name ≡ host.old.desk.seat.ghost_name }
     ensures roster { host.new.roster.ghost_name ≡ host.old.roster.ghost_name }
@@ -35,7 +39,8 @@ fn admit<R: Wait>(
     match host.admit(tenant) {
         Ok(life) => {
             let tenant = entered;
-            residents.enter(rt, Resident { life, tenant });
+            let desk = &mut host.desk;
+            residents.enter(rt, desk.cluster, desk.seat, Resident { life, tenant });
             HostReply::Admitted(name)
         }
         Err(error) => HostReply::Denied(error.told()),
@@ -43,9 +48,9 @@ fn admit<R: Wait>(
 }
 
 // Closes a tenant. Nobody is greeted as the tenant from then on.
-fn close<R: Wait>(
+fn close<R: Wait, S: Site>(
     rt: &R,
-    residents: &Residents,
+    residents: &Residents<S>,
     host: &mut TenantHost<'_, R>,
     name: Name,
 ) -> HostReply
@@ -64,12 +69,14 @@ fn close<R: Wait>(
 }
 
 // Admits the tenant of a line. A first clock that no clock has is bad syntax.
-fn admit_line<R: Wait>(
+fn admit_line<R: Wait, S: Site>(
     rt: &R,
-    residents: &Residents,
+    residents: &Residents<S>,
     host: &mut TenantHost<'_, R>,
     tenant: Tenant,
 ) -> HostReply
+    requires site { host.old.desk.cluster.now ≡ S.cluster }
+    requires nodes { 0 < length (openings host.old.desk.cluster.now) }
     ensures cluster { host.new.desk.cluster.now ≡ host.old.desk.cluster.now }
     ensures seat { host.new.desk.seat.ghost_name ≡ host.old.desk.seat.ghost_name }
     ensures roster { host.new.roster.ghost_name ≡ host.old.roster.ghost_name }
@@ -84,13 +91,15 @@ fn admit_line<R: Wait>(
 }
 
 // Does what a line of the host says. Returns the reply, or none if the line asks for the end.
-fn reply_to<R: Wait + Clock>(
+fn reply_to<R: Wait + Clock, S: Site>(
     rt: &R,
-    residents: &Residents,
+    residents: &Residents<S>,
     stop: &Stop,
     host: &mut TenantHost<'_, R>,
     line: HostLine,
 ) -> Option<HostReply>
+    requires site { host.old.desk.cluster.now ≡ S.cluster }
+    requires nodes { 0 < length (openings host.old.desk.cluster.now) }
     ensures cluster { host.new.desk.cluster.now ≡ host.old.desk.cluster.now }
     ensures seat { host.new.desk.seat.ghost_name ≡ host.old.desk.seat.ghost_name }
     ensures roster { host.new.roster.ghost_name ≡ host.old.roster.ghost_name }
@@ -110,14 +119,16 @@ fn reply_to<R: Wait + Clock>(
 }
 
 /// Follows a line of the host, and reports the reply.
-pub(crate) fn follow<R: Wait + Clock, L: HostReports>(
+pub(crate) fn follow<R: Wait + Clock, L: HostReports, S: Site>(
     rt: &R,
-    residents: &Residents,
+    residents: &Residents<S>,
     stop: &Stop,
     reports: &L,
     host: &mut TenantHost<'_, R>,
     line: HostLine,
 )
+    requires site { host.old.desk.cluster.now ≡ S.cluster }
+    requires nodes { 0 < length (openings host.old.desk.cluster.now) }
     ensures cluster { host.new.desk.cluster.now ≡ host.old.desk.cluster.now }
     ensures seat { host.new.desk.seat.ghost_name ≡ host.old.desk.seat.ghost_name }
     ensures roster { host.new.roster.ghost_name ≡ host.old.roster.ghost_name }
@@ -132,14 +143,16 @@ pub(crate) fn follow<R: Wait + Clock, L: HostReports>(
 }
 
 /// Follows lines of the host, one after another.
-pub(crate) fn follow_each<R: Wait + Clock, L: HostReports>(
+pub(crate) fn follow_each<R: Wait + Clock, L: HostReports, S: Site>(
     rt: &R,
-    residents: &Residents,
+    residents: &Residents<S>,
     stop: &Stop,
     reports: &L,
     host: &mut TenantHost<'_, R>,
     lines: &[HostLine],
 )
+    requires site { host.old.desk.cluster.now ≡ S.cluster }
+    requires nodes { 0 < length (openings host.old.desk.cluster.now) }
     ensures cluster { host.new.desk.cluster.now ≡ host.old.desk.cluster.now }
     ensures seat { host.new.desk.seat.ghost_name ≡ host.old.desk.seat.ghost_name }
     ensures roster { host.new.roster.ghost_name ≡ host.old.roster.ghost_name }

@@ -1,21 +1,24 @@
 //! Lines of the host at a running cluster, and the clients that are greeted meanwhile.
-ghost use Rattle.std.specs.Prelude.{IsTrue};
+ghost use Rattle.std.specs.Prelude.{◌≡◌, ◌<◌, IsTrue, length};
 ghost use Rattle.cops_types.specs.HeadLines.{are_sizes};
 ghost use Rattle.cops_node.specs.Parts.{are_clocks};
+ghost use Rattle.cops_service.specs.Gates.{IsSeatOf, openings};
+ghost use Rattle.cops_service.specs.HostedDesks.{AreHosted};
 
 use crate::following::follow;
 use crate::host_lines::{HostLine, HostLines};
 use crate::hosted_tests::beta;
 use crate::reports::HostReports;
-use crate::residents::Residents;
+use crate::residents::{Residents, Site};
 use crate::stops::Stop;
 use crate::tests::config;
-use crate::{Cluster, HostedDesk, Life, Roster, TenantHost};
+use crate::{Cluster, HostedDesk, Life, Roster, ServiceSeat, TenantHost};
 use cops_model::HostReply;
-use cops_node::has_clocks;
+use cops_node::{HostedNode, has_clocks};
 use cops_types::{Config, Fault, Name, Tenant, Version};
 use std::alloc::Global;
 use std::cell::Cell;
+use std::marker::Brand;
 use std::process::Abort;
 use std::sync::Wait;
 use std::time::Clock;
@@ -41,60 +44,117 @@ impl HostReports for Last {
 }
 
 // Returns the reply to a line, or 0 if it has none.
-fn told<R: Wait + Clock>(
+fn told<R: Wait + Clock, S: Site>(
     rt: &R,
-    residents: &Residents,
+    residents: &Residents<S>,
     stop: &Stop,
     host: &mut TenantHost<'_, R>,
     line: HostLine,
-) -> u8 {
+) -> u8
+    requires site { host.old.desk.cluster.now ≡ S.cluster }
+    requires nodes { 0 < length (openings host.old.desk.cluster.now) }
+    ensures cluster { host.new.desk.cluster.now ≡ host.old.desk.cluster.now }
+{
     let last = Last { told: Cell::new(0) };
     follow(rt, residents, stop, &last, host, line);
     last.told.get()
 }
 
 // Asserts who is greeted by beta's token: nobody, or beta in this life.
-fn assert_greeted<R: Wait + Abort>(rt: &R, residents: &Residents, life: Option<u64>) {
-    let found = residents.find(rt, &[2; 16]);
+fn assert_greeted<R: Wait + Abort, S: Site>(
+    rt: &R,
+    residents: &Residents<S>,
+    host: &mut TenantHost<'_, R>,
+    life: Option<u64>,
+)
+    requires site { host.old.desk.cluster.now ≡ S.cluster }
+    ensures cluster { host.new.desk.cluster.now ≡ host.old.desk.cluster.now }
+{
+    let desk = &mut host.desk;
+    let found = residents.greet(rt, desk.cluster, desk.seat, &[2; 16]);
     assert!(rt; found.map(|resident| resident.life) == life.map(|number| Life { slot: 1, number }));
 }
 
-// Asserts the replies in two lives of beta, who is greeted from its admission to its close.
-fn assert_lives<R: Wait + Clock + Abort>(
+// Asserts the replies in a life of beta, who is greeted from its admission to its close.
+fn assert_life<R: Wait + Clock + Abort, S: Site>(
     rt: &R,
-    residents: &Residents,
+    residents: &Residents<S>,
     host: &mut TenantHost<'_, R>,
-) {
+    life: u64,
+)
+    requires site { host.old.desk.cluster.now ≡ S.cluster }
+    requires nodes { 0 < length (openings host.old.desk.cluster.now) }
+    ensures cluster { host.new.desk.cluster.now ≡ host.old.desk.cluster.now }
+{
     let stop = Stop::never();
-    for life in 1..3u64 {
-        assert_greeted(rt, residents, None);
-        assert!(rt; told(rt, residents, &stop, host, HostLine::Admit(beta(rt))) == ADMITTED);
-        assert_greeted(rt, residents, Some(life));
-        let twice = told(rt, residents, &stop, host, HostLine::Admit(beta(rt)));
-        assert!(rt; twice == Fault::NameTaken.number());
-        assert!(rt; told(rt, residents, &stop, host, HostLine::Close(beta(rt).name)) == CLOSED);
-    }
-    assert_greeted(rt, residents, None);
+    assert_greeted(rt, residents, host, None);
+    assert!(rt; told(rt, residents, &stop, host, HostLine::Admit(beta(rt))) == ADMITTED);
+    assert_greeted(rt, residents, host, Some(life));
+    let twice = told(rt, residents, &stop, host, HostLine::Admit(beta(rt)));
+    assert!(rt; twice == Fault::NameTaken.number());
+    assert!(rt; told(rt, residents, &stop, host, HostLine::Close(beta(rt).name)) == CLOSED);
+    assert_greeted(rt, residents, host, None);
     let late = told(rt, residents, &stop, host, HostLine::Close(beta(rt).name));
     assert!(rt; late == Fault::UnknownTenant.number());
 }
 
-// Asserts that lines without a form do nothing, and that the last one asks for the end.
-fn assert_others<R: Wait + Clock + Abort>(
+// Asserts that a line without a form does nothing.
+fn assert_unread<R: Wait + Clock + Abort, S: Site>(
     rt: &R,
-    residents: &Residents,
+    residents: &Residents<S>,
+    stop: &Stop,
     host: &mut TenantHost<'_, R>,
-) {
+    line: HostLine,
+)
+    requires site { host.old.desk.cluster.now ≡ S.cluster }
+    requires nodes { 0 < length (openings host.old.desk.cluster.now) }
+    ensures cluster { host.new.desk.cluster.now ≡ host.old.desk.cluster.now }
+{
+    assert!(rt; told(rt, residents, stop, host, line) == Fault::Syntax.number());
+    assert_greeted(rt, residents, host, None);
+}
+
+// Asserts that lines without a form do nothing, and that the last one asks for the end.
+fn assert_others<R: Wait + Clock + Abort, S: Site>(
+    rt: &R,
+    residents: &Residents<S>,
+    host: &mut TenantHost<'_, R>,
+)
+    requires site { host.old.desk.cluster.now ≡ S.cluster }
+    requires nodes { 0 < length (openings host.old.desk.cluster.now) }
+{
     let stop = Stop::never();
     let mut late = beta(rt);
     late.first_clock = Version::LAST_CLOCK + 1;
-    for line in [HostLine::Unknown, HostLine::Admit(late)] {
-        assert!(rt; told(rt, residents, &stop, host, line) == Fault::Syntax.number());
-    }
-    assert_greeted(rt, residents, None);
+    assert_unread(rt, residents, &stop, host, HostLine::Unknown);
+    assert_unread(rt, residents, &stop, host, HostLine::Admit(late));
     assert!(rt; !stop.is_asked());
     assert!(rt; told(rt, residents, &stop, host, HostLine::End) == 0);
     assert!(rt; stop.is_asked());
+}
+
+// Follows lines at these nodes.
+fn follow_at<R: Wait + Clock + Abort, S: Site>(
+    rt: &R,
+    alloc: Global,
+    config: &Config,
+    cluster: &Cluster<HostedNode>,
+    seat: &mut ServiceSeat<HostedNode>,
+)
+    requires site { (config.now ≡ S.config) × (cluster.now ≡ S.cluster) }
+    requires hosted { AreHosted cluster.now }
+    requires seat { IsSeatOf cluster.now seat.old }
+    requires nodes { 0 < length (openings cluster.now) }
+{
+    let residents = Residents::<S>::of(alloc, config, cluster, seat).expect(rt, "memory");
+    let mut roster = Roster::of(alloc, config).expect(rt, "memory");
+    let mut host = TenantHost {
+        desk: HostedDesk::new(rt, cluster, seat),
+        roster: &mut roster,
+    };
+    assert_life(rt, &residents, &mut host, 1);
+    assert_life(rt, &residents, &mut host, 2);
+    assert_others(rt, &residents, &mut host);
 }
 
 // Opens two nodes, and follows lines there.
@@ -103,14 +163,7 @@ fn follow_lines<R: Wait + Clock + Abort>(rt: &R, alloc: Global, config: &Config)
     requires clocks { IsTrue (are_clocks config.now) }
 {
     let (cluster, mut seat) = Cluster::host(alloc, config).expect(rt, "memory");
-    let residents = Residents::of(alloc, config).expect(rt, "memory");
-    let mut roster = Roster::of(alloc, config).expect(rt, "memory");
-    let mut host = TenantHost {
-        desk: HostedDesk::new(rt, &cluster, &mut seat),
-        roster: &mut roster,
-    };
-    assert_lives(rt, &residents, &mut host);
-    assert_others(rt, &residents, &mut host);
+    follow_at::<R, Brand>(rt, alloc, config, &cluster, &mut seat);
 }
 
 #[test]

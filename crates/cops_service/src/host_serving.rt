@@ -20,7 +20,7 @@ use crate::host_threads::{FinishedLives, HostedCrew, Left, Together, serve_hoste
 use crate::hosted_seats::HostedSeat;
 use crate::notes::{Notes, Stream};
 use crate::reports::{Counts, HostReports, Reports, Totals};
-use crate::residents::Residents;
+use crate::residents::{Residents, Site};
 use crate::roster::Roster;
 use crate::serving::{Options, helpers, worker_count};
 use crate::stops::Stop;
@@ -30,6 +30,7 @@ use cops_node::{HostedNode, Node};
 use cops_types::{Config, Fault, RequestError};
 use cops_wire::Moments;
 use std::alloc::{AllocError, Global};
+use std::marker::Brand;
 use std::net::TcpListener;
 use std::sync::Wait;
 use std::thread::Threads;
@@ -156,7 +157,7 @@ fn end_seats<T: Moments + Copy>(
 }
 
 // Serves connections at the nodes of an open cluster. In the end the seat has seen all that the threads did.
-fn serve_nodes<R, T, L>(
+fn serve_nodes<R, T, L, S>(
     rt: &R,
     alloc: Global,
     seated: &mut HostedSeat<'_>,
@@ -170,6 +171,8 @@ where
     R: Threads + Wait + Clock + Sync,
     T: Moments + Copy + Send,
     L: Reports + HostReports + Sync,
+    S: Site + Copy + Send,
+    requires site { (seated.old.config.now ≡ S.config) × (seated.old.cluster.now ≡ S.cluster) }
     requires first { HasSplitOff 0 seated.old.seat }
     ensures cluster { (seated.new.cluster ≡ seated.old.cluster)
         × (seated.new.config ≡ seated.old.config) }
@@ -180,7 +183,7 @@ where
     let workers = worker_count(&options);
     let crew = crew(alloc, seated, workers)?;
     let roster = Roster::of(alloc, seated.config)?;
-    let residents = Residents::of(alloc, seated.config)?;
+    let residents = Residents::<S>::of(alloc, seated.config, seated.cluster, &mut seated.seat)?;
     let notes = Notes::of_slots(alloc, seated.config, MOST_TENANTS)?;
     let helpers = helpers(alloc, seated.config, &notes)?;
     let together = Together {
@@ -242,7 +245,7 @@ where
         seat,
     };
     let totals = Totals::new();
-    let outcome = serve_nodes(
+    let outcome = serve_nodes::<R, T, L, Brand>(
         rt,
         alloc,
         &mut seated,

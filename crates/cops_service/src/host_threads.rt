@@ -1,9 +1,10 @@
 //! The threads of a service whose tenants come and go.
-ghost use Rattle.std.specs.Prelude.{◌≡◌, ◌⊎◌, [], length, IfOk, IfSome};
+ghost use Rattle.std.specs.Prelude.{◌≡◌, ◌<◌, ◌⊎◌, ⊤, [], length, IfOk, IfSome};
 ghost use Rattle.std.specs.List.{AllByRecursion};
 ghost use Rattle.std.specs.Thread.{IsSend, IsSync};
 ghost use Rattle.cops_model.specs.MainTheorem.{with_tenant_alone};
-ghost use Rattle.cops_service.specs.Gates.{IsNewSeatOf};
+ghost use Rattle.cops_service.specs.Admitted.{ShowsLife};
+ghost use Rattle.cops_service.specs.Gates.{HasSeenMore, IsNewSeatOf, openings};
 ghost use Rattle.cops_service.specs.HostedCrews.{CarriesLives, CollectsLives};
 ghost use Rattle.cops_service.specs.LifeCrews.{AreOfHosts, AreOfLifeCrew, AreOfLifeServers, AreOfLifeWorkers, ConversesInLife, FollowsLines, IsHostedFor, ServesInLife, ServesLives};
 ghost use Rattle.cops_service.specs.SeatsDone.{HasSinceDone};
@@ -25,7 +26,7 @@ use crate::lines::{Line, grace_of};
 use crate::living::LivingDesk;
 use crate::notes::{Notes, Stream};
 use crate::reports::{HostReports, Reports, Totals};
-use crate::residents::{Resident, Residents};
+use crate::residents::{Resident, Residents, Site};
 use crate::roster::Roster;
 use crate::serving::Options;
 use crate::stops::Stop;
@@ -46,8 +47,7 @@ use std::thread::{PromisedHandle, Threads};
 use std::time::Clock;
 
 /// What all threads share.
-#[derive_where(Clone, Copy)]
-pub(crate) struct Together<'a, R, L> {
+pub(crate) struct Together<'a, R, L, S: Site> {
     pub(crate) rt: &'a R,
     pub(crate) alloc: Global,
     pub(crate) config: &'a Config,
@@ -58,9 +58,22 @@ pub(crate) struct Together<'a, R, L> {
     pub(crate) stop: &'a Stop,
     pub(crate) totals: &'a Totals,
     pub(crate) reports: &'a L,
-    pub(crate) residents: &'a Residents,
+    pub(crate) residents: &'a Residents<S>,
     pub(crate) lines: &'a HostLines,
+    pub(crate) ghost site: { (config.now ≡ S.config) × (cluster.now ≡ S.cluster) },
 }
+
+impl<R, L, S: Site> Clone for Together<'_, R, L, S> {
+    ghost is_clone = { λ together copy. copy ≡ together };
+
+    ghost is_infallible = { λ _. ⊤ };
+
+    fn clone(&self) -> Result<Self, AllocError> {
+        Ok(*self)
+    }
+}
+
+impl<R, L, S: Site> Copy for Together<'_, R, L, S> {}
 
 /// The seats of all threads.
 #[derive(Drop)]
@@ -120,8 +133,8 @@ fn config_of_none(alloc: Global, config: &Config) -> Config
 }
 
 // Serves a client, from whom these bytes were read, in the life of its tenant.
-fn serve_resident<R: Wait + Clock, L, T: Moments>(
-    together: Together<'_, R, L>,
+fn serve_resident<R: Wait + Clock, L, T: Moments, S: Site>(
+    together: Together<'_, R, L, S>,
     line: &Line<'_, R>,
     bytes: &[u8],
     resident: Resident,
@@ -147,8 +160,8 @@ fn serve_resident<R: Wait + Clock, L, T: Moments>(
 }
 
 // Refuses the greeting of a client that names no tenant.
-fn refuse_stranger<R: Wait + Clock, L, T: Moments>(
-    together: Together<'_, R, L>,
+fn refuse_stranger<R: Wait + Clock, L, T: Moments, S: Site>(
+    together: Together<'_, R, L, S>,
     line: &Line<'_, R>,
     bytes: &[u8],
     nodes: &mut LivingDesk<'_, R>,
@@ -165,19 +178,39 @@ fn refuse_stranger<R: Wait + Clock, L, T: Moments>(
     serve_watched(together.alloc, &config, line, bytes, stay, nodes, moments)
 }
 
-// Returns the tenant that a client's greeting names, in its life.
-fn resident_of<R: Wait, L>(together: Together<'_, R, L>, opened: &Opened) -> Option<Resident> {
-    let token = opened.token?;
-    together.residents.find(together.rt, &token)
+// Returns the tenant that a client's greeting names, in its life. The desk's seat then sees whose life it is.
+#[tactic(auto, using(crate::proofs::Admitted::seen_the_same))]
+fn resident_of<R: Wait, L, S: Site>(
+    together: Together<'_, R, L, S>,
+    opened: &Opened,
+    nodes: &mut LivingDesk<'_, R>,
+) -> Option<Resident>
+    requires site { nodes.old.nodes.desk.cluster.now ≡ S.cluster }
+    ensures config { nodes.new.config.now ≡ nodes.old.config.now }
+    ensures desk { (nodes.new.nodes.desk.cluster.now ≡ nodes.old.nodes.desk.cluster.now)
+        × (nodes.new.nodes.desk.seat.ghost_name ≡ nodes.old.nodes.desk.seat.ghost_name) }
+    ensures more { HasSeenMore nodes.old.nodes.desk.seat.now nodes.new.nodes.desk.seat.now }
+    ensures shown { IfSome result (λ resident. ShowsLife S.config S.cluster resident.life
+        resident.tenant nodes.new.nodes.desk.seat.now.history) }
+{
+    let Some(token) = &opened.token else {
+        return None;
+    };
+    let desk = &mut nodes.nodes.desk;
+    together
+        .residents
+        .greet(together.rt, desk.cluster, desk.seat, token)
 }
 
 // Serves a client in the life of the tenant that it names. The tenant is looked up once its greeting is there.
-fn serve_life<R: Wait + Clock, L, T: Moments>(
-    together: Together<'_, R, L>,
+fn serve_life<R: Wait + Clock, L, T: Moments, S: Site>(
+    together: Together<'_, R, L, S>,
     line: &Line<'_, R>,
     nodes: &mut LivingDesk<'_, R>,
     moments: &mut T,
 ) -> Result<Ended, RequestError>
+    requires site { (nodes.old.config.now ≡ S.config)
+        × (nodes.old.nodes.desk.cluster.now ≡ S.cluster) }
     ensures config { nodes.new.config.now ≡ nodes.old.config.now }
     ensures desk { (nodes.new.nodes.desk.cluster.now ≡ nodes.old.nodes.desk.cluster.now)
         × (nodes.new.nodes.desk.seat.ghost_name ≡ nodes.old.nodes.desk.seat.ghost_name) }
@@ -188,19 +221,21 @@ fn serve_life<R: Wait + Clock, L, T: Moments>(
 {
     let opened = open_line(together.alloc, line)?;
     let bytes = opened.bytes.as_slice();
-    match resident_of(together, &opened) {
+    match resident_of(together, &opened, nodes) {
         Some(resident) => serve_resident(together, line, bytes, resident, nodes, moments),
         None => refuse_stranger(together, line, bytes, nodes, moments),
     }
 }
 
 // Serves a connection. One that fails ends alone.
-fn serve_stream<R: Wait + Clock, L: Reports, T: Moments>(
-    together: Together<'_, R, L>,
+fn serve_stream<R: Wait + Clock, L: Reports, T: Moments, S: Site>(
+    together: Together<'_, R, L, S>,
     nodes: &mut LivingDesk<'_, R>,
     accepted: &Accepted,
     moments: &mut T,
 )
+    requires site { (nodes.old.config.now ≡ S.config)
+        × (nodes.old.nodes.desk.cluster.now ≡ S.cluster) }
     ensures config { nodes.new.config.now ≡ nodes.old.config.now }
     ensures desk { (nodes.new.nodes.desk.cluster.now ≡ nodes.old.nodes.desk.cluster.now)
         × (nodes.new.nodes.desk.seat.ghost_name ≡ nodes.old.nodes.desk.seat.ghost_name) }
@@ -230,12 +265,14 @@ fn serve_stream<R: Wait + Clock, L: Reports, T: Moments>(
 }
 
 // Serves connections until none follows.
-fn serve_lives<R: Wait + Clock, L: Reports, T: Moments>(
-    together: Together<'_, R, L>,
+fn serve_lives<R: Wait + Clock, L: Reports, T: Moments, S: Site>(
+    together: Together<'_, R, L, S>,
     nodes: &mut LivingDesk<'_, R>,
     streams: &Receiver<Accepted, Global>,
     moments: &mut T,
 )
+    requires site { (nodes.old.config.now ≡ S.config)
+        × (nodes.old.nodes.desk.cluster.now ≡ S.cluster) }
     ensures config { nodes.new.config.now ≡ nodes.old.config.now }
     ensures desk { (nodes.new.nodes.desk.cluster.now ≡ nodes.old.nodes.desk.cluster.now)
         × (nodes.new.nodes.desk.seat.ghost_name ≡ nodes.old.nodes.desk.seat.ghost_name) }
@@ -253,8 +290,8 @@ fn serve_lives<R: Wait + Clock, L: Reports, T: Moments>(
 }
 
 // The thread of a worker.
-fn work<R: Wait + Clock, L: Reports, T: Moments + Copy>(
-    together: Together<'_, R, L>,
+fn work<R: Wait + Clock, L: Reports, T: Moments + Copy, S: Site>(
+    together: Together<'_, R, L, S>,
     mut seat: ServiceSeat<HostedNode>,
     streams: &Receiver<Accepted, Global>,
     mut moments: T,
@@ -283,8 +320,8 @@ fn work<R: Wait + Clock, L: Reports, T: Moments + Copy>(
 // ---- the threads that carry and collect
 
 // The thread that carries.
-fn carry<R: Wait + Clock, L, T: Moments + Copy>(
-    together: Together<'_, R, L>,
+fn carry<R: Wait + Clock, L, T: Moments + Copy, S: Site>(
+    together: Together<'_, R, L, S>,
     mut seat: ServiceSeat<HostedNode>,
     mut streams: Vec<Stream>,
     mut waiting: Waiting,
@@ -312,8 +349,8 @@ fn carry<R: Wait + Clock, L, T: Moments + Copy>(
 }
 
 // The thread that collects.
-fn collect<R: Wait + Clock, L, T: Moments + Copy>(
-    together: Together<'_, R, L>,
+fn collect<R: Wait + Clock, L, T: Moments + Copy, S: Site>(
+    together: Together<'_, R, L, S>,
     mut seat: ServiceSeat<HostedNode>,
     mut collecting: Collecting,
     mut moments: T,
@@ -342,11 +379,13 @@ fn collect<R: Wait + Clock, L, T: Moments + Copy>(
 // ---- the host
 
 // Follows the host's lines at a desk until none follows.
-fn follow_lines<R: Wait + Clock, L: HostReports>(
-    together: Together<'_, R, L>,
+fn follow_lines<R: Wait + Clock, L: HostReports, S: Site>(
+    together: Together<'_, R, L, S>,
     host: &mut TenantHost<'_, R>,
     taken: &mut Vec<HostLine>,
 )
+    requires site { host.old.desk.cluster.now ≡ S.cluster }
+    requires nodes { 0 < length (openings host.old.desk.cluster.now) }
     ensures desk { (host.new.desk.cluster.now ≡ host.old.desk.cluster.now)
         × (host.new.desk.seat.ghost_name ≡ host.old.desk.seat.ghost_name) }
     ensures roster { host.new.roster.ghost_name ≡ host.old.roster.ghost_name }
@@ -373,8 +412,9 @@ fn follow_lines<R: Wait + Clock, L: HostReports>(
 
 // The thread that follows the host's lines. It has no use for timestamps: a closure over references alone, without a value
 // of a type parameter, doesn't pass on what it ensures.
-fn follow_host<R: Wait + Clock, L: HostReports, T: Copy>(
-    together: Together<'_, R, L>,
+#[tactic(auto, using(crate::proofs::Admitted::some_hosted))]
+fn follow_host<R: Wait + Clock, L: HostReports, T: Copy, S: Site>(
+    together: Together<'_, R, L, S>,
     mut seat: ServiceSeat<HostedNode>,
     mut roster: Roster,
     mut taken: Vec<HostLine>,
@@ -420,8 +460,8 @@ fn join_workers<R: Threads, T: Moments>(
 }
 
 // Accepts connections and hands them to workers, which serve them until none follows.
-fn accept_and_serve<R, L, T>(
-    together: Together<'_, R, L>,
+fn accept_and_serve<R, L, T, S>(
+    together: Together<'_, R, L, S>,
     seats: Vec<ServiceSeat<HostedNode>>,
     moments: T,
 ) -> Result<Option<FinishedLives>, AllocError>
@@ -429,6 +469,7 @@ where
     R: Threads + Wait + Clock + Sync,
     L: Reports + Sync,
     T: Moments + Copy + Send,
+    S: Site + Copy + Send,
     requires open { IsHostedFor together.config.now together.cluster.now }
     requires seats { AllByRecursion (λ seat. IsNewSeatOf together.cluster.now seat) seats.items }
     ensures { IfOk result (λ r. IfSome r (λ f. AreOfLifeWorkers T.Gives moments
@@ -441,7 +482,7 @@ where
         thread::scope_env(),
         together.rt,
         move |scope| -> Result<Option<FinishedLives>, AllocError>
-            requires { IsSync R.row × IsSync L.row × IsSend T.row
+            requires { IsSync R.row × IsSync L.row × IsSend T.row × IsSend S.row
                 × IsHostedFor together.config.now together.cluster.now
                 × AllByRecursion (λ seat. IsNewSeatOf together.cluster.now seat) seats.items
                 × (length seats.items ≡ count) }
@@ -488,8 +529,8 @@ where
 }
 
 // Does the same beside a thread that follows the host's lines. Returns none if that thread can't be started.
-fn serve_and_host<R, L, T>(
-    together: Together<'_, R, L>,
+fn serve_and_host<R, L, T, S>(
+    together: Together<'_, R, L, S>,
     seats: Vec<ServiceSeat<HostedNode>>,
     seat: ServiceSeat<HostedNode>,
     roster: Roster,
@@ -499,6 +540,7 @@ where
     R: Threads + Wait + Clock + Sync,
     L: Reports + HostReports + Sync,
     T: Moments + Copy + Send,
+    S: Site + Copy + Send,
     requires open { IsHostedFor together.config.now together.cluster.now }
     requires seats { AllByRecursion (λ seat. IsNewSeatOf together.cluster.now seat) seats.items }
     requires host { IsNewSeatOf together.cluster.now seat }
@@ -511,7 +553,7 @@ where
         thread::scope_env(),
         together.rt,
         move |scope| -> Result<Option<Left>, AllocError>
-            requires { IsSync R.row × IsSync L.row × IsSend T.row
+            requires { IsSync R.row × IsSync L.row × IsSend T.row × IsSend S.row
                 × IsHostedFor together.config.now together.cluster.now
                 × AllByRecursion (λ seat. IsNewSeatOf together.cluster.now seat) seats.items
                 × IsNewSeatOf together.cluster.now seat }
@@ -549,8 +591,8 @@ where
 }
 
 // Does the same beside a thread that carries.
-fn serve_and_carry<R, L, T>(
-    together: Together<'_, R, L>,
+fn serve_and_carry<R, L, T, S>(
+    together: Together<'_, R, L, S>,
     seats: Vec<ServiceSeat<HostedNode>>,
     host: ServiceSeat<HostedNode>,
     carrier: ServiceSeat<HostedNode>,
@@ -563,6 +605,7 @@ where
     R: Threads + Wait + Clock + Sync,
     L: Reports + HostReports + Sync,
     T: Moments + Copy + Send,
+    S: Site + Copy + Send,
     requires open { IsHostedFor together.config.now together.cluster.now }
     requires seats { AllByRecursion (λ seat. IsNewSeatOf together.cluster.now seat) seats.items }
     requires host { IsNewSeatOf together.cluster.now host }
@@ -575,7 +618,7 @@ where
         thread::scope_env(),
         together.rt,
         move |scope| -> Result<Option<Left>, AllocError>
-            requires { IsSync R.row × IsSync L.row × IsSend T.row
+            requires { IsSync R.row × IsSync L.row × IsSend T.row × IsSend S.row
                 × IsHostedFor together.config.now together.cluster.now
                 × AllByRecursion (λ seat. IsNewSeatOf together.cluster.now seat) seats.items
                 × IsNewSeatOf together.cluster.now host × IsNewSeatOf together.cluster.now carrier }
@@ -618,8 +661,8 @@ where
 
 /// Serves connections, and follows the host's lines meanwhile, beside a thread that carries and one that collects. Returns
 /// none if one of these or the host's can't be started.
-pub(crate) fn serve_hosted<R, L, T>(
-    together: Together<'_, R, L>,
+pub(crate) fn serve_hosted<R, L, T, S>(
+    together: Together<'_, R, L, S>,
     crew: HostedCrew,
     helpers: Helpers,
     roster: Roster,
@@ -629,6 +672,7 @@ where
     R: Threads + Wait + Clock + Sync,
     L: Reports + HostReports + Sync,
     T: Moments + Copy + Send,
+    S: Site + Copy + Send,
     requires open { IsHostedFor together.config.now together.cluster.now }
     requires workers { AllByRecursion (λ seat. IsNewSeatOf together.cluster.now seat)
         crew.workers.items }
@@ -654,7 +698,7 @@ where
         thread::scope_env(),
         together.rt,
         move |scope| -> Result<Option<Left>, AllocError>
-            requires { IsSync R.row × IsSync L.row × IsSend T.row
+            requires { IsSync R.row × IsSync L.row × IsSend T.row × IsSend S.row
                 × IsHostedFor together.config.now together.cluster.now
                 × AllByRecursion (λ seat. IsNewSeatOf together.cluster.now seat) workers.items
                 × IsNewSeatOf together.cluster.now host × IsNewSeatOf together.cluster.now carrier

@@ -1,16 +1,38 @@
 //! The tenants that clients may be greeted as.
-ghost use Rattle.std.specs.Prelude.{◌≡◌, ◌<◌, ◌≤◌, ◌++◌, ◌∷◌, ◌&&◌, ◌==◌, ℕ, [], slice_get, IfSome, Some};
+ghost use Rattle.std.specs.Prelude.{◌≡◌, ◌<◌, ◌≤◌, ◌++◌, ◌∷◌, ◌&&◌, ◌==◌, [], length, slice_get, IfOk, IfSome, Some};
 ghost use Rattle.std.specs.List.{list_any};
 ghost use Rattle.std.specs.Vec.{vec_capacity, vec_len};
+ghost use Rattle.cops_types.specs.declared.configs.Config.{Config};
+ghost use Rattle.cops_node.specs.Hosting.{Hosted};
+ghost use Rattle.cops_service.specs.Admitted.{ShowsLife, empty_config, no_gates};
+ghost use Rattle.cops_service.specs.Gates.{Gates, HasSeenMore, IsSeatOf, IsWitnessOf};
 
+use crate::cluster::{Cluster, ServiceSeat};
 use crate::roster::Life;
+use cops_gate::Witness;
+use cops_node::HostedNode;
 use cops_types::{Config, Tenant};
 use std::alloc::{AllocError, Global};
+use std::marker::{Brand, PhantomData};
 use std::sync::atomic::{AtomicU64, Ordering};
 use std::sync::{Mutex, Wait};
 
 /// The most tenants at once.
 const MOST_RESIDENTS: usize = 64;
+
+/// The service that tenants are residents of, for the proof alone. A call at `Brand` chooses it.
+pub(crate) trait Site {
+    /// What it began with.
+    ghost config: { Config };
+
+    ghost cluster: { Gates Hosted };
+}
+
+impl Site for Brand {
+    ghost config = { empty_config };
+
+    ghost cluster = { no_gates };
+}
 
 /// A tenant that all nodes have, in a life of its slot.
 #[derive(Clone, Copy)]
@@ -19,83 +41,161 @@ pub(crate) struct Resident {
     pub(crate) tenant: Tenant,
 }
 
+/// A resident, with a witness of all that shows that the life is the tenant's.
+#[derive(Drop)]
+struct Entered<S: Site> {
+    resident: Resident,
+    witness: Witness<HostedNode>,
+    site: PhantomData<S>,
+    ghost own: { IsWitnessOf S.cluster witness },
+    ghost shown: { ShowsLife S.config S.cluster resident.life resident.tenant witness.history },
+}
+
 /// The tenants that clients may be greeted as. The host enters a tenant once all nodes have it, and removes it before the
 /// first node loses it. A lock is held for one look-up or one change. No call allocates.
 #[derive(Drop)]
-pub(crate) struct Residents {
-    residents: Mutex<Vec<Resident>>,
+pub(crate) struct Residents<S: Site> {
+    entered: Mutex<Vec<Entered<S>>>,
     // How often a tenant has left. It is counted after the tenant was removed.
     departures: AtomicU64,
 }
 
 // Enters a tenant, if there is room.
-fn enter(residents: &mut Vec<Resident>, resident: Resident)
-    ensures added { vec_len residents.old < vec_capacity residents.old →
-        residents.new.items ≡ residents.old.items ++ resident ∷ [] }
-    ensures full { vec_capacity residents.old ≤ vec_len residents.old →
-        residents.new.items ≡ residents.old.items }
+fn enter<S: Site>(all: &mut Vec<Entered<S>>, entered: Entered<S>)
+    ensures added { vec_len all.old < vec_capacity all.old →
+        all.new.items ≡ all.old.items ++ entered ∷ [] }
+    ensures full { vec_capacity all.old ≤ vec_len all.old → all.new.items ≡ all.old.items }
 {
-    if residents.len() < residents.capacity() {
-        residents.push_reserved(resident);
+    if all.len() < all.capacity() {
+        all.push_reserved(entered);
     }
 }
 
 // Returns `true` if a tenant is here in this life.
-fn is_among(residents: &[Resident], life: Life) -> bool
-    ensures { result ≡ list_any (λ resident. (resident.life.slot == life.slot)
-        && (resident.life.number == life.number)) residents.now }
+fn is_among<S: Site>(all: &[Entered<S>], life: Life) -> bool
+    ensures { result ≡ list_any (λ entered. (entered.resident.life.slot == life.slot)
+        && (entered.resident.life.number == life.number)) all.now }
 {
-    residents.iter().any(|resident| resident.life == life)
+    all.iter().any(|entered| entered.resident.life == life)
 }
 
-// Returns the first of these tenants with this token.
-fn with_token(residents: &[Resident], token: &[u8; 16]) -> Option<Resident>
-    ensures found { IfSome result (λ resident. resident.tenant.token ≡ token.now) }
-    ensures one { IfSome result
-        (λ resident. (k : ℕ) × (slice_get residents.now k ≡ Some resident)) }
+// Returns the place of the first tenant with this token.
+fn place_of_token<S: Site>(all: &[Entered<S>], token: &[u8; 16]) -> Option<usize>
+    ensures within { IfSome result (λ place. place < length all.now) }
+    ensures found { IfSome result (λ place. IfSome (slice_get all.now place)
+        (λ entered. entered.resident.tenant.token ≡ token.now)) }
 {
-    for resident in residents {
-        if resident.tenant.token.as_bytes() == token {
-            return Some(*resident);
+    for place in 0..all.len() {
+        if all[place].resident.tenant.token.as_bytes() == token {
+            return Some(place);
         }
     }
     None
 }
 
-impl Residents {
+impl<S: Site> Entered<S> {
+    // Returns the tenant in its life, and lets a seat see that this is so.
+    #[tactic(auto, using(crate::proofs::Admitted::shows_later))]
+    fn show(
+        &mut self,
+        cluster: &Cluster<HostedNode>,
+        seat: &mut ServiceSeat<HostedNode>,
+    ) -> Resident
+        requires site { cluster.now ≡ S.cluster }
+        requires seat { IsSeatOf cluster.now seat.old }
+        ensures resident { result ≡ self.old.resident }
+        ensures seat { IsSeatOf cluster.now seat.new }
+        ensures more { HasSeenMore seat.old seat.new }
+        ensures shown { ShowsLife S.config S.cluster result.life result.tenant seat.new.history }
+    {
+        seat.hear(cluster, &mut self.witness);
+        self.resident
+    }
+}
+
+// Returns the first tenant with this token, and lets a seat see whose life that is.
+#[tactic(auto, using(crate::proofs::Admitted::seen_the_same))]
+fn greet<S: Site>(
+    all: &mut Vec<Entered<S>>,
+    cluster: &Cluster<HostedNode>,
+    seat: &mut ServiceSeat<HostedNode>,
+    token: &[u8; 16],
+) -> Option<Resident>
+    requires site { cluster.now ≡ S.cluster }
+    requires seat { IsSeatOf cluster.now seat.old }
+    ensures found { IfSome result (λ resident. resident.tenant.token ≡ token.now) }
+    ensures seat { IsSeatOf cluster.now seat.new }
+    ensures more { HasSeenMore seat.old seat.new }
+    ensures shown { IfSome result (λ resident. ShowsLife S.config S.cluster resident.life
+        resident.tenant seat.new.history) }
+{
+    match place_of_token(all.as_slice(), token) {
+        Some(place) => Some(all[place].show(cluster, seat)),
+        None => None,
+    }
+}
+
+impl<S: Site> Residents<S> {
     /// Returns the tenants of a configuration, in their slots' lives 0.
-    pub(crate) fn of(alloc: Global, config: &Config) -> Result<Self, AllocError> {
-        let mut residents = Vec::with_capacity(alloc, MOST_RESIDENTS)?;
+    pub(crate) fn of(
+        alloc: Global,
+        config: &Config,
+        cluster: &Cluster<HostedNode>,
+        seat: &mut ServiceSeat<HostedNode>,
+    ) -> Result<Self, AllocError>
+        requires config { config.now ≡ S.config }
+        requires site { cluster.now ≡ S.cluster }
+        requires seat { IsSeatOf cluster.now seat.old }
+        ensures seat { seat.new ≡ seat.old }
+    {
+        let mut all = Vec::with_capacity(alloc, MOST_RESIDENTS)?;
         let tenants = config.tenants.as_slice();
         for place in 0..tenants.len() {
             let life = Life {
                 slot: place as u64,
                 number: 0,
             };
-            enter(
-                &mut residents,
-                Resident {
-                    life,
-                    tenant: tenants[place],
-                },
-            );
+            let tenant = tenants[place];
+            let entered = Entered {
+                resident: Resident { life, tenant },
+                witness: seat.witness(cluster),
+                site: PhantomData,
+            };
+            enter(&mut all, entered);
         }
         Ok(Residents {
-            residents: Mutex::new(residents),
+            entered: Mutex::new(all),
             departures: AtomicU64::new(0),
         })
     }
 
-    /// Enters a tenant that all nodes have.
-    pub(crate) fn enter<R: Wait>(&self, rt: &R, resident: Resident) {
-        enter(&mut self.residents.lock(rt), resident);
+    /// Enters a tenant that all nodes have, as the seat has seen.
+    pub(crate) fn enter<R: Wait>(
+        &self,
+        rt: &R,
+        cluster: &Cluster<HostedNode>,
+        seat: &mut ServiceSeat<HostedNode>,
+        resident: Resident,
+    )
+        requires site { cluster.now ≡ S.cluster }
+        requires seat { IsSeatOf cluster.now seat.old }
+        requires shown { ShowsLife S.config S.cluster resident.life resident.tenant
+            seat.old.history }
+        ensures seat { seat.new ≡ seat.old }
+    {
+        let entered = Entered {
+            resident,
+            witness: seat.witness(cluster),
+            site: PhantomData,
+        };
+        enter(&mut self.entered.lock(rt), entered);
     }
 
     /// Removes the tenant of this name.
     pub(crate) fn leave<R: Wait>(&self, rt: &R, name: &[u8]) {
-        self.residents
+        self.entered
             .lock(rt)
-            .retain(|resident| resident.tenant.name.bytes() != name);
+            .retain(|entered| entered.resident.tenant.name.bytes() != name);
         self.departures.fetch_add(1, Ordering::SeqCst);
     }
 
@@ -106,11 +206,25 @@ impl Residents {
 
     /// Returns `true` if a tenant is here in this life.
     pub(crate) fn have<R: Wait>(&self, rt: &R, life: Life) -> bool {
-        is_among(self.residents.lock(rt).as_slice(), life)
+        is_among(self.entered.lock(rt).as_slice(), life)
     }
 
-    /// Returns the tenant with this token.
-    pub(crate) fn find<R: Wait>(&self, rt: &R, token: &[u8; 16]) -> Option<Resident> {
-        with_token(self.residents.lock(rt).as_slice(), token)
+    /// Returns the tenant with this token, and lets a seat see that the life is the tenant's.
+    pub(crate) fn greet<R: Wait>(
+        &self,
+        rt: &R,
+        cluster: &Cluster<HostedNode>,
+        seat: &mut ServiceSeat<HostedNode>,
+        token: &[u8; 16],
+    ) -> Option<Resident>
+        requires site { cluster.now ≡ S.cluster }
+        requires seat { IsSeatOf cluster.now seat.old }
+        ensures found { IfSome result (λ resident. resident.tenant.token ≡ token.now) }
+        ensures seat { IsSeatOf cluster.now seat.new }
+        ensures more { HasSeenMore seat.old seat.new }
+        ensures shown { IfSome result (λ resident. ShowsLife S.config S.cluster resident.life
+            resident.tenant seat.new.history) }
+    {
+        greet(&mut self.entered.lock(rt), cluster, seat, token)
     }
 }

@@ -4,7 +4,7 @@ ghost use Rattle.cops_service.specs.declared.watching.TheConstants.{PIECE};
 ghost use Rattle.std.specs.Io.{ReadsAtMost};
 ghost use Rattle.std.specs.Io.KnownBytes.{ReadConsumes, prepend_known};
 
-use crate::residents::Residents;
+use crate::residents::{Residents, Site};
 use crate::roster::Life;
 use std::alloc::{AllocError, Global};
 use std::cell::Cell;
@@ -27,17 +27,17 @@ pub(crate) trait Lasting {
 
 /// The life of a connection's tenant, if it has one. It goes on as long as the residents have it.
 #[derive(Drop)]
-pub(crate) struct Stay<'a, R> {
+pub(crate) struct Stay<'a, R, S: Site> {
     rt: &'a R,
-    residents: &'a Residents,
+    residents: &'a Residents<S>,
     life: Option<Life>,
     // How many tenants had left when the residents had it.
     departures: u64,
 }
 
-impl<'a, R> Stay<'a, R> {
+impl<'a, R, S: Site> Stay<'a, R, S> {
     /// Returns a life that no look has found yet.
-    pub(crate) fn new(rt: &'a R, residents: &'a Residents, life: Option<Life>) -> Stay<'a, R>
+    pub(crate) fn new(rt: &'a R, residents: &'a Residents<S>, life: Option<Life>) -> Stay<'a, R, S>
         ensures { result.life ≡ life }
     {
         Stay {
@@ -49,7 +49,7 @@ impl<'a, R> Stay<'a, R> {
     }
 }
 
-impl<R: Wait> Lasting for Stay<'_, R> {
+impl<R: Wait, S: Site> Lasting for Stay<'_, R, S> {
     ghost Says = { λ old goes_on new. (new.life ≡ old.life) × (old.life ≡ None → goes_on ≡ true) };
 
     fn goes_on(&mut self) -> bool {

@@ -29,6 +29,7 @@ use Rattle.cops_whole.specs.LivesRuns.{SlotCallThere, calls_of_host}
 use Rattle.cops_whole.specs.LivesRuns.Deed.{Hosts}
 use Rattle.cops_whole.specs.ServedLives.{BeganIn}
 use Rattle.cops_whole.proofs.LifeDeeds.{BehavesAs, DoesAllThere, does_both}
+use Rattle.cops_whole.proofs.SeenMore.{seen_none, seen_same}
 
 -- ---- at most once
 
@@ -108,7 +109,7 @@ module _ (config : Config) (cluster : Gates Hosted) where
       let one : List SlotCallThere = record { node = bound; entry = slot_entry slot 0 (Admit life tenant) reply } ∷ [] in
       record {
         calls = asked.calls ++ one;
-        did = did_both asked.calls one old mid new asked.did (new, (refl, call), refl);
+        did = did_both asked.calls one old mid new asked.did (mid, seen_none mid, new, (refl, call), seen_none new);
         are = Every-append (λ (c : SlotCallThere). (c.entry.call ≡ Admit life tenant) × (c.entry.slot ≡ slot) × (c.node < suc bound)) asked.calls one
             (all_weaker (λ (c : SlotCallThere). (c.entry.call ≡ Admit life tenant) × (c.entry.slot ≡ slot) × (c.node < bound)) (λ (c : SlotCallThere). (c.entry.call ≡ Admit life tenant) × (c.entry.slot ≡ slot) × (c.node < suc bound)) asked.calls
             (λ c h. (h.0, h.1, let below : c.node < bound = h.2 in omega (arith, below))) asked.are) ((refl, refl, omega arith), tt);
@@ -124,7 +125,7 @@ module _ (config : Config) (cluster : Gates Hosted) where
       }
 
   asked_first : (slot life : ℕ) (tenant : Tenant) (Is : SlotReply → Type 0) (bound : ℕ) (old new : HostedSeat) → CallsFirst cluster slot (Admit life tenant) Is bound old new → Asked slot life tenant bound old new
-  asked_first slot life tenant Is zero old new same = record { calls = []; did = same; are = tt; once = λ node at its. tt }
+  asked_first slot life tenant Is zero old new same = record { calls = []; did = seen_same old new same; are = tt; once = λ node at its. tt }
   asked_first slot life tenant Is (suc bound) old new (between, reply, earlier, call, so) =
       asked_more slot life tenant bound reply old between new (asked_first slot life tenant Is bound old between earlier) call
 
@@ -136,13 +137,13 @@ module _ (config : Config) (cluster : Gates Hosted) where
     pub are : AllByRecursion (λ (c : SlotCallThere). c.entry.call ≡ Close) calls
 
   closed_first : (slot : ℕ) (Is : SlotReply → Type 0) (bound : ℕ) (old new : HostedSeat) → CallsFirst cluster slot Close Is bound old new → ClosesOnly old new
-  closed_first slot Is zero old new same = record { calls = []; did = same; are = tt }
+  closed_first slot Is zero old new same = record { calls = []; did = seen_same old new same; are = tt }
   closed_first slot Is (suc bound) old new (between, reply, earlier, call, so) =
       let rest = closed_first slot Is bound old between earlier in
       let one : List SlotCallThere = record { node = bound; entry = slot_entry slot 0 Close reply } ∷ [] in
       record {
         calls = rest.calls ++ one;
-        did = did_both rest.calls one old between new rest.did (new, (refl, call), refl);
+        did = did_both rest.calls one old between new rest.did (between, seen_none between, new, (refl, call), seen_none new);
         are = Every-append (λ (c : SlotCallThere). c.entry.call ≡ Close) rest.calls one rest.are (refl, tt);
       }
 
@@ -157,7 +158,7 @@ module _ (config : Config) (cluster : Gates Hosted) where
     pub once : (node slot life : ℕ) → AtMostOnce (AsksThere node slot life) calls
 
   host_stays : (number other : ℕ) (old new : HostedSeat) → other ≡ number → new ≡ old → HostDid number other old new
-  host_stays number other old new is same = record { calls = []; did = same; rises = omega (arith, is); asked = tt; once = λ node slot life. tt }
+  host_stays number other old new is same = record { calls = []; did = seen_same old new same; rises = omega (arith, is); asked = tt; once = λ node slot life. tt }
 
   host_both : (lower mid upper : ℕ) (old between new : HostedSeat) → HostDid lower mid old between → HostDid mid upper between new → HostDid lower upper old new
   host_both lower mid upper old between new first second = record {
@@ -198,7 +199,7 @@ module _ (config : Config) (cluster : Gates Hosted) where
   }
 
   no_close : (seat : HostedSeat) → ClosesOnly seat seat
-  no_close seat = record { calls = []; did = refl; are = tt }
+  no_close seat = record { calls = []; did = seen_none seat; are = tt }
 
   host_closed : (number other : ℕ) (old new : HostedSeat) → other ≡ number → ClosesOnly old new → HostDid number other old new
   host_closed number other old new is closes = record {

@@ -9,6 +9,7 @@ pub mod Threads
 pub mod NoOps
 pub mod FilledLogs
 pub mod PlacedTurns
+pub mod SeenMore
 pub mod SeatTurns
 pub mod GateLogs
 pub mod Histories
@@ -27,4 +28,5 @@ pub mod LivesRuns
 pub mod LifeDeeds
 pub mod Admissions
 pub mod LifeTimes
+pub mod ShownLives
 pub mod ServedLives

@@ -19,10 +19,10 @@ use Rattle.cops_node.specs.declared.hosted.SlotReply.TheVariants as told
 use Rattle.cops_node.specs.Hosting.{Hosted, IsSlotTurn}
 use Rattle.cops_node.specs.Lacking.{MayLackAtSlot}
 use Rattle.cops_service.specs.Carried.{TakesSteps, carried_stream}
-use Rattle.cops_service.specs.Gates.{Gates, IsToldAtGate, openings}
+use Rattle.cops_service.specs.Gates.{Gates, HasSeenMore, IsToldAtGate, openings}
 use Rattle.cops_service.specs.HostedCrews.{CallsInLife, CollectsPlace, DeliversInLife, life_of_place}
 use Rattle.cops_service.specs.HostedDesks.{HostedSeat}
-use Rattle.cops_service.specs.LifeCrews.{ServesInLife}
+use Rattle.cops_service.specs.LifeCrews.{ConversesInLife, ServesInLife}
 use Rattle.cops_service.specs.Noted.{IsBetweenCentres, IsNodeThere}
 use Rattle.cops_service.specs.Repeated.{Repeats}
 use Rattle.cops_service.specs.declared.roster.Life.{Life}
@@ -37,6 +37,8 @@ use Rattle.cops_whole.specs.Seats.{BehavesInSlot, MakesAll, SlotActor}
 use Rattle.cops_whole.specs.Threads.{AreCallsOfActors}
 use Rattle.cops_whole.proofs.AtShards.{Within, all_converse_there, delivers_there, same_conversations}
 use Rattle.cops_whole.proofs.Nodes.{some_same}
+use Rattle.cops_whole.proofs.SeatsStay.{StaysSeat, later_seat, more_seen, same_seat, told_seat}
+use Rattle.cops_whole.proofs.SeenMore.{seen_both, seen_none, seen_same}
 use Rattle.cops_whole.proofs.Threads.{collects, delivered, sessions_worked, worked}
 
 -- ---- deeds at a gate
@@ -65,12 +67,29 @@ module _ (config : Config) (cluster : Gates Hosted) where
   DoesOneThere old (Hosts c) new = (is_of_host c.entry.call ≡ true) × IsHostTold old c new
 
   abbrev pub DoesAllThere : HostedSeat → List Deed → HostedSeat → Type 0
-  DoesAllThere old [] new = new ≡ old
-  DoesAllThere old (deed ∷ deeds) new = (mid : HostedSeat) × DoesOneThere old deed mid × DoesAllThere mid deeds new
+  DoesAllThere old [] new = HasSeenMore old new
+  DoesAllThere old (deed ∷ deeds) new = (seen : HostedSeat) × HasSeenMore old seen × (mid : HostedSeat) × DoesOneThere seen deed mid × DoesAllThere mid deeds new
+
+  does_later : (deeds : List Deed) (old seen new : HostedSeat) → HasSeenMore old seen → DoesAllThere seen deeds new → DoesAllThere old deeds new
+  does_later [] old seen new more again = seen_both old seen new more again
+  does_later (deed ∷ deeds) old seen new more (later, again, mid, one, rest) = (later, seen_both old seen later more again, mid, one, rest)
 
   pub does_both : (deeds later : List Deed) (old mid new : HostedSeat) → DoesAllThere old deeds mid → DoesAllThere mid later new → DoesAllThere old (deeds ++ later) new
-  does_both [] later old mid new first second = subst (λ s. DoesAllThere s later new) first second
-  does_both (deed ∷ deeds) later old mid new (between, one, first) second = (between, one, does_both deeds later between mid new first second)
+  does_both [] later old mid new first second = does_later later old mid new first second
+  does_both (deed ∷ deeds) later old mid new (seen, more, between, one, first) second = (seen, more, between, one, does_both deeds later between mid new first second)
+
+  pub after_turns : (slot life : ℕ) (ts : List CallTurn) (old new : HostedSeat) → MakesTurns (CallsThere slot life) slot old ts new → StaysSeat old new
+  after_turns slot life [] old new same = same_seat old new same
+  after_turns slot life (t ∷ ts) old new (mid, (below, (answer, reply_is, call)), later) = later_seat old mid new (told_seat old mid call) (after_turns slot life ts mid new later)
+
+  after_one : (deed : Deed) (old new : HostedSeat) → DoesOneThere old deed new → StaysSeat old new
+  after_one (Acts a) old new did = after_turns a.slot a.life (turns_of_told a.did) old new did
+  after_one (Hosts c) old new (is, call) = told_seat old new call
+
+  pub after_all : (deeds : List Deed) (old new : HostedSeat) → DoesAllThere old deeds new → StaysSeat old new
+  after_all [] old new more = more_seen old new more
+  after_all (deed ∷ deeds) old new (seen, more, mid, one, later) =
+      later_seat old seen new (more_seen old seen more) (later_seat seen mid new (after_one deed seen mid one) (after_all deeds mid new later))
 
   -- deeds of actors, of which those of each life behave as its tenant's do
   pub record Deeds (who : ℕ → ℕ → Tenant) (old new : HostedSeat) : Type 0 where
@@ -99,8 +118,8 @@ module _ (config : Config) (cluster : Gates Hosted) where
   only_acts life (a ∷ actors) = only_acts life actors
 
   acts_there : (life : Life) (actors : List SlotActor) (old new : HostedSeat) → MakesAll (Within (CallsInLife cluster life) config.shards) old actors new → DoesAllThere old (deeds_of life actors) new
-  acts_there life [] old new same = same
-  acts_there life (a ∷ actors) old new (mid, made, later) = (mid, any_slot life a.slot life.slot (turns_of_told a.did) old mid made, acts_there life actors mid new later)
+  acts_there life [] old new same = seen_same old new same
+  acts_there life (a ∷ actors) old new (mid, made, later) = (old, seen_none old, mid, any_slot life a.slot life.slot (turns_of_told a.did) old mid made, acts_there life actors mid new later)
 
   behave_alone : (tenant : Tenant) (a : SlotActor) → BehavesInSlot (with_tenant_alone config tenant) a → Behaves (tenant_config config tenant) None a.did
   behave_alone tenant a (other, found, behaves) = subst (λ (t : Tenant). Behaves (tenant_config config t) None a.did) (alone tenant other a.slot found) behaves
@@ -132,9 +151,11 @@ module _ (config : Config) (cluster : Gates Hosted) where
     sessions_both (c ∷ first) second [] later one two = absurd one
     sessions_both (c ∷ first) second (d ∷ deeds) later one two = (one.0, sessions_both first second deeds later one.1 two)
 
-    served_here : (first last : HostedSeat × M) (step : Step first last) → Sessions (served_once Gives first.1 config cluster first last step) first.0 last.0
-    served_here first last (inl same) = record { deeds = []; did = ap (λ (s : HostedSeat × M). s.0) same; are = tt }
-    served_here first last (inr (life, tenant, h)) =
+    abbrev client_in : (life : Life) (tenant : Tenant) (first last : HostedSeat × M) → ConversesInLife config cluster Gives life tenant first last → List LifeConversation
+    client_in life tenant first last h = map (in_life life tenant) (conversation_in (CallsInLife cluster life) Gives (with_tenant_alone config tenant) first.0 last.0 first.1 last.1 h)
+
+    pub conversed : (life : Life) (tenant : Tenant) (first last : HostedSeat × M) (h : ConversesInLife config cluster Gives life tenant first last) → Sessions (client_in life tenant first last h) first.0 last.0
+    conversed life tenant first last h =
         let alone_config : Config = with_tenant_alone config tenant in
         let there = all_converse_there (CallsInLife cluster life) Gives alone_config some_shards 1 first.0 last.0 first.1 last.1 (first.0, first.1, (refl, refl), h) in
         let acted = worked (Within (CallsInLife cluster life) config.shards) Gives alone_config 1 first.0 last.0 first.1 last.1 there in
@@ -147,8 +168,14 @@ module _ (config : Config) (cluster : Gates Hosted) where
           are = sessions_in life tenant (conversation_in (CallsInLife cluster life) Gives alone_config first.0 last.0 first.1 last.1 h) acted.actors sessions acted.behave;
         }
 
+    pub served_here : (first last : HostedSeat × M) (step : Step first last) → Sessions (served_once Gives first.1 config cluster first last step) first.0 last.0
+    served_here first last (inl none) = record { deeds = []; did = none.0; are = tt }
+    served_here first last (inr (seen, more, life, tenant, shown, h)) =
+        let s = conversed life tenant (seen, first.1) last h in
+        record { deeds = s.deeds; did = does_later s.deeds first.0 seen last.0 more s.did; are = s.are }
+
     pub all_served : (moments : M) (count : ℕ) (first last : HostedSeat × M) (steps : Repeats Step count first last) → Sessions (served_in Gives moments config cluster count first last steps) first.0 last.0
-    all_served moments zero first last same = record { deeds = []; did = ap (λ (s : HostedSeat × M). s.0) same; are = tt }
+    all_served moments zero first last same = record { deeds = []; did = seen_same first.0 last.0 (ap (λ (s : HostedSeat × M). s.0) same); are = tt }
     all_served moments (suc count) first last (between, earlier, step) =
         let one = all_served moments count first between earlier in
         let two = served_here between last step in
@@ -161,7 +188,7 @@ module _ (config : Config) (cluster : Gates Hosted) where
   -- ---- carriers and collectors
 
   pub none : (who : ℕ → ℕ → Tenant) (old new : HostedSeat) → new ≡ old → Deeds who old new
-  none who old new same = record { deeds = []; did = same; acts = refl; behave = λ slot life. tt }
+  none who old new same = record { deeds = []; did = seen_same old new same; acts = refl; behave = λ slot life. tt }
 
   pub both : (who : ℕ → ℕ → Tenant) (old mid new : HostedSeat) → Deeds who old mid → Deeds who mid new → Deeds who old new
   both who old mid new first second = record {

@@ -21,10 +21,14 @@ call_is node e is = ap (λ b. cond b (Some (record { node = node; entry = e })) 
 is_admission : (call : SlotCall) (life : ℕ) (tenant : Tenant) → call ≡ Admit life tenant → is_of_host call ≡ true
 is_admission call life tenant is = ap is_of_host is
 
+-- so it is of an admission
+abbrev pub IsAdmittedSo : (ℕ → Tenant → Type 0) → Option SlotEntry → Type 0
+IsAdmittedSo Is None = Unit {0}
+IsAdmittedSo Is (Some e) = (life : ℕ) (tenant : Tenant) → e.call ≡ Admit life tenant → Is life tenant
+
 -- it is for this tenant if it is an admission in this life
 abbrev pub IsEntryFor : Tenant → ℕ → Option SlotEntry → Type 0
-IsEntryFor tenant life None = Unit {0}
-IsEntryFor tenant life (Some e) = (other : Tenant) → e.call ≡ Admit life other → other ≡ tenant
+IsEntryFor tenant life = IsAdmittedSo (λ other its. other ≡ life → its ≡ tenant)
 
 -- a seat without calls of the host has no such turn
 none_by : (seat : ℕ) (log : List SlotTurn) → host_calls_by seat log ≡ [] → AllByRecursion (λ (t : SlotTurn). (t.seat == seat) ≡ true → host_call t.node t.entry ≡ None) log
@@ -86,6 +90,26 @@ module _ (host : ℕ) where
       by false at every rest =
           let apart : t.seat ≢ host = (λ same. let yes_same : (t.seat == host) ≡ true = (Decides-eqb t.seat host).1 same in cc) in
           (none t.node t.entry (only.0 apart), rest every)
+
+  -- what holds of each admission that the host asked for
+  pub admissions_so : (Is : ℕ → Tenant → Type 0) (log : List SlotTurn) → AllByRecursion IsHostsOnly log → AllByRecursion (λ (c : SlotCallThere). IsAdmittedSo Is (Some c.entry)) (host_calls_by host log) →
+      AllByRecursion (λ (t : SlotTurn). IsAdmittedSo Is t.entry) log
+  admissions_so Is log only all = by_calls (λ node entry. IsAdmittedSo Is entry) (λ c. IsAdmittedSo Is (Some c.entry)) by_none by_some log only all
+    where
+      by_none : (n : ℕ) (entry : Option SlotEntry) → host_call n entry ≡ None → IsAdmittedSo Is entry
+      by_none n None none = tt
+      by_none n (Some e) none = λ life tenant is. let some = call_is n e (is_admission e.call life tenant is) in cc
+
+      by_some : (n : ℕ) (entry : Option SlotEntry) (c : SlotCallThere) → host_call n entry ≡ Some c → IsAdmittedSo Is (Some c.entry) → IsAdmittedSo Is entry
+      by_some n None c is h = tt
+      by_some n (Some e) c is h = λ life tenant asks.
+          let c_is : c ≡ record { node = n; entry = e } = some_same c (record { node = n; entry = e }) (sym is ∙ call_is n e (is_admission e.call life tenant asks)) in
+          h life tenant (ap (λ (x : SlotCallThere). x.entry.call) c_is ∙ asks)
+
+  -- all for one tenant
+  pub all_entries_for : (tenant : Tenant) (life : ℕ) (log : List SlotTurn) → AllByRecursion IsHostsOnly log → AllByRecursion (IsForTenant tenant life) (host_calls_by host log) → AllByRecursion (λ (t : SlotTurn). IsEntryFor tenant life t.entry) log
+  all_entries_for tenant life log only own = admissions_so (λ other its. other ≡ life → its ≡ tenant) log only
+      (all_weaker (IsForTenant tenant life) (λ (c : SlotCallThere). IsEntryFor tenant life (Some c.entry)) (host_calls_by host log) (λ c h other its asks same. h its (asks ∙ ap (λ n. Admit n its) same)) own)
 
 -- ---- one life
 
@@ -177,7 +201,7 @@ module _ (host slot life : ℕ) where
       now : (o : Option SlotEntry) → entry ≡ o → AsksForLife slot life o → NeverAsksFor slot life entries → IsEntryFor tenant life o → AsksOnce tenant slot life (entry ∷ entries)
       now None is asks never own = absurd asks
       now (Some e) is (at, other, call) never own =
-          let call_now : e.call ≡ Admit life tenant = call ∙ ap (Admit life) (own other call) in
+          let call_now : e.call ≡ Admit life tenant = call ∙ ap (Admit life) (own life other call refl) in
           record {
             earlier = [];
             later = entries;
@@ -200,20 +224,9 @@ module _ (host slot life : ℕ) where
         NeverAsksFor slot life (slot_entries_at node prefix) ⊎ AsksOnce tenant slot life (slot_entries_at node prefix)
     once_or_never tenant once own node =
         let once_here : AtMostOnce (AsksAt node) log = once_there node log only (subst (AtMostOnce (AsksThere node slot life)) (sym calls_are) (once node)) in
-        let own_here : AllByRecursion (λ (t : SlotTurn). IsEntryFor tenant life t.entry) log =
-        by_calls host (λ n entry. IsEntryFor tenant life entry) (IsForTenant tenant life) (λ n entry none. by_none n entry none) (λ n entry c is h. by_some n entry c is h) log only (subst (AllByRecursion (IsForTenant tenant life)) (sym calls_are) own) in
+        let own_here : AllByRecursion (λ (t : SlotTurn). IsEntryFor tenant life t.entry) log = all_entries_for host tenant life log only (subst (AllByRecursion (IsForTenant tenant life)) (sym calls_are) own) in
         asked_once tenant (slot_entries_at node prefix) (once_at node prefix (once_prefix (AsksAt node) prefix later (subst (AtMostOnce (AsksAt node)) are once_here)))
         (for_at tenant node prefix (all_prefix (λ (t : SlotTurn). IsEntryFor tenant life t.entry) prefix later (subst (AllByRecursion (λ (t : SlotTurn). IsEntryFor tenant life t.entry)) are own_here)))
-      where
-        by_none : (n : ℕ) (entry : Option SlotEntry) → host_call n entry ≡ None → IsEntryFor tenant life entry
-        by_none n None none = tt
-        by_none n (Some e) none = λ other is. let some = call_is n e (is_admission e.call life other is) in cc
-
-        by_some : (n : ℕ) (entry : Option SlotEntry) (c : SlotCallThere) → host_call n entry ≡ Some c → IsForTenant tenant life c → IsEntryFor tenant life entry
-        by_some n None c is h = tt
-        by_some n (Some e) c is h = λ other asks.
-            let c_is : c ≡ record { node = n; entry = e } = some_same c (record { node = n; entry = e }) (sym is ∙ call_is n e (is_admission e.call life other asks)) in
-            h other (ap (λ (x : SlotCallThere). x.entry.call) c_is ∙ asks)
 
     pub never_before : (lower upper : ℕ) → life < lower → AllByRecursion (IsAskedFrom lower upper) calls → (node : ℕ) → NeverAsksFor slot life (slot_entries_at node prefix)
     never_before lower upper below asked node =

@@ -25,7 +25,8 @@ use Rattle.cops_history.proofs.Lives.{joined_parts}
 use Rattle.cops_served.specs.Conversations.{MakesTurns, turns_of_told}
 use Rattle.cops_whole.specs.LivesRuns.{Deed, DoesAll, DoesOne, IsSlotTurnAt, IsTurnInLife, SlotCallThere, calls_of_host, commands_in_life, host_call, is_of_host, joins_life, logged_call, slot_turn_of}
 use Rattle.cops_whole.specs.LivesRuns.Deed.{Acts, Hosts}
-use Rattle.cops_whole.proofs.SeatTurns.{CallAt, MakesCalls, makes_both, turn_by, turns_by}
+use Rattle.cops_whole.proofs.SeatTurns.{CallAt, MakesCalls, makes_both, makes_later, turn_by, turns_by}
+use Rattle.cops_whole.proofs.SeenMore.{seen_none, seen_same}
 use Rattle.cops_whole.proofs.Seated.{id_again}
 
 abbrev pub SlotCalls : Type 0
@@ -120,7 +121,7 @@ module _ (shards : ℕ) (states : List Hosted) where
     actor_called : (ts : List CallTurn) (old new : HostedSeat) → MakesTurns (IsTurnInLife shards states life) slot old ts new → Called (of_actor ts) [] old new
     actor_called [] old new same = record {
       calls = [];
-      made = same;
+      made = seen_same old new same;
       are = λ at its seat. nothing (nat_eq slot at && nat_eq life its);
       asked = λ seat. refl;
     }
@@ -150,7 +151,7 @@ module _ (shards : ℕ) (states : List Hosted) where
   host_called : (c : SlotCallThere) (old new : HostedSeat) → is_of_host c.entry.call ≡ true → IsSlotTurnAt states old c new → Called (λ slot life. []) (c ∷ []) old new
   host_called c old new is call = record {
     calls = call_of c ∷ [];
-    made = (new, call, refl);
+    made = (new, call, seen_none new);
     are = λ slot life seat. (λ i. cons_option (none slot life i) []);
     asked = λ seat. ap (λ b. cons_option (cond b (Some c) None) []) is;
   }
@@ -196,13 +197,14 @@ module _ (shards : ℕ) (states : List Hosted) where
     pub asked : (seat : ℕ) → filter_map host_turn (turns_by seat calls) ≡ calls_of_host deeds
 
   pub all_called : (deeds : List Deed) (old new : HostedSeat) → DoesAll shards states old deeds new → AllCalled deeds old new
-  all_called [] old new same = record { calls = []; made = same; are = λ slot life seat. refl; asked = λ seat. refl }
-  all_called (deed ∷ deeds) old new (mid, first, later) =
-      let one = deed_called deed old mid first in
+  all_called [] old new more = record { calls = []; made = more; are = λ slot life seat. refl; asked = λ seat. refl }
+  all_called (deed ∷ deeds) old new (seen, more, mid, first, later) =
+      let one = deed_called deed seen mid first in
       let rest = all_called deeds mid new later in
       record {
         calls = one.calls ++ rest.calls;
-        made = makes_both IsSlotTurn MayLackAtSlot (told.Refused OutOfMemory) states one.calls rest.calls old mid new one.made rest.made;
+        made = makes_later IsSlotTurn MayLackAtSlot (told.Refused OutOfMemory) states (one.calls ++ rest.calls) old seen new more
+            (makes_both IsSlotTurn MayLackAtSlot (told.Refused OutOfMemory) states one.calls rest.calls seen mid new one.made rest.made);
         are = λ slot life seat.
             ap (life_turns shards slot life) (map-append (turn_by seat) one.calls rest.calls) ∙ both_mapped (in_life shards slot life) (turns_by seat one.calls) (turns_by seat rest.calls)
             ∙ (λ i. one.are slot life seat i ++ rest.are slot life seat i) ∙ sym (joins_first slot life deed (commands_in_life slot life deeds));

@@ -21,6 +21,7 @@ use Rattle.cops_whole.specs.Seats.{MakesAll, SlotActor, turn_by, turns_by_actor}
 use Rattle.cops_whole.specs.Services.{IsTurnAtNode, IsTurnAtShard, logged_entry}
 use Rattle.cops_whole.specs.Whole.{WholeTurn, whole_turn}
 use Rattle.cops_whole.proofs.SeatTurns.{CallAt, MakesCalls, makes_both, turn_by as turn_by_seat, turns_by}
+use Rattle.cops_whole.proofs.SeenMore.{seen_same}
 
 -- a gate's turn as one of a log
 abbrev pub logged_turn : GateTurn NodeCall NodeReply → WholeTurn
@@ -59,11 +60,11 @@ module _ (config : Config) (cluster : Gates Shared) (shards : cluster.shards ≡
   Makes old calls new = MakesCalls IsMachineTurn MayLack (Refused OutOfMemory) (openings cluster) old calls new
 
   one_made : (slot : ℕ) (ts : List Turn) (old new : NodeSeat) → MakesTurns (IsTurnAtShard config cluster) slot old ts new → Makes old (map (call_of config slot) ts) new
-  one_made slot [] old new same = same
+  one_made slot [] old new same = seen_same old new same
   one_made slot (t ∷ ts) old new (mid, call, later) =
       (mid, subst (λ n. IsTurnAtNode cluster (node_number n t.node) old slot t.moment t.call t.reply mid) shards call.1, one_made slot ts mid new later)
 
   pub all_made : (actors : List SlotActor) (old new : NodeSeat) → MakesAll (IsTurnAtShard config cluster) old actors new → Makes old (calls_of config actors) new
-  all_made [] old new same = same
+  all_made [] old new same = seen_same old new same
   all_made (a ∷ actors) old new (mid, made, later) =
       makes_both IsMachineTurn MayLack (Refused OutOfMemory) (openings cluster) (calls_of_actor config a) (calls_of config actors) old mid new (one_made a.slot (turns_of_told a.did) old mid made) (all_made actors mid new later)

@@ -9,9 +9,12 @@ use Rattle.cops_gate.specs.declared.history.Entry.{Entry}
 use Rattle.cops_gate.specs.declared.history.Turn.{Turn}
 use Rattle.cops_gate.specs.History.{IsLegal, Leads, LeavesLacking, Makes, StartsWith, turn, turns_at, turns_of}
 use Rattle.cops_gate.specs.Seats.{Extends, Known}
+use Rattle.cops_gate.proofs.Ending.{starts_again}
 use Rattle.cops_gate.proofs.Histories.{turns_mine}
 use Rattle.cops_gate.proofs.Keeps.{there_at}
+use Rattle.cops_service.specs.Gates.{HasSeenMore}
 use Rattle.cops_whole.proofs.PlacedTurns.{ArePlaced, of_each, placed, placed_of}
+use Rattle.cops_whole.proofs.SeenMore.{extends_before, seen_both}
 
 -- ---- memory
 
@@ -98,13 +101,31 @@ module _ {M C R : Type 0} (turns : M → ℕ → ℕ → C → R → M → Type 
       × (Extends turns states c.node old (Some c.entry) new
       ⊎ (c.entry.reply ≡ lacking) × Extends turns states c.node old None new × LeavesLacking turns may_lack states old.number c.node c.entry.slot c.entry.call new.history)
 
-  -- these calls, one after another
+  -- these calls, one after another; in the end the seat may see more
   abbrev pub MakesCalls : Known M C R → List (CallAt C R) → Known M C R → Type 0
-  MakesCalls old [] new = new ≡ old
+  MakesCalls old [] new = HasSeenMore old new
   MakesCalls old (c ∷ calls) new = (mid : Known M C R) × IsTurnAt old c mid × MakesCalls mid calls new
 
+  -- the seat had seen more by then
+  turn_before : (old seen new : Known M C R) (c : CallAt C R) → HasSeenMore old seen → IsTurnAt seen c new → IsTurnAt old c new
+  turn_before old seen new c more h = (
+    h.0 ∙ more.same.1,
+    elim (h.1) [
+      | inl grows ↦ inl (extends_before turns states c.node (Some c.entry) old seen new more grows)
+      | inr lacked ↦ inr (
+        lacked.0,
+        extends_before turns states c.node None old seen new more lacked.1,
+        subst (λ n. LeavesLacking turns may_lack states n c.node c.entry.slot c.entry.call new.history) more.same.1 lacked.2,
+      )
+    ],
+  )
+
+  pub makes_later : (calls : List (CallAt C R)) (old seen new : Known M C R) → HasSeenMore old seen → MakesCalls seen calls new → MakesCalls old calls new
+  makes_later [] old seen new more again = seen_both old seen new more again
+  makes_later (c ∷ calls) old seen new more (mid, call, later) = (mid, turn_before old seen mid c more call, later)
+
   pub makes_both : (calls later : List (CallAt C R)) (old mid new : Known M C R) → MakesCalls old calls mid → MakesCalls mid later new → MakesCalls old (calls ++ later) new
-  makes_both [] later old mid new first second = subst (λ s. MakesCalls s later new) first second
+  makes_both [] later old mid new first second = makes_later later old mid new first second
   makes_both (c ∷ calls) later old mid new (between, call, first) second = (between, call, makes_both calls later between mid new first second)
 
 module _ {M C R : Type 0} (turns : M → ℕ → ℕ → C → R → M → Type 0) (may_lack : M → ℕ → C → Type 0) (memory : MemoryRule turns may_lack) (states : List M) (seat : ℕ) where
@@ -125,13 +146,16 @@ module _ {M C R : Type 0} (turns : M → ℕ → ℕ → C → R → M → Type 
     pub seen : StartsWith new.history old.history
     pub there : ArePlaced (length states) (turns_of seat old.history) → ArePlaced (length states) (turns_of seat new.history)
 
-  stays : (old new : Known M C R) → old.number ≡ seat → new ≡ old → Grown old [] new
-  stays old new number_is is = record {
-    number_is = ap (λ (s : Known M C R). s.number) is ∙ number_is;
-    own = ap (λ (s : Known M C R). KeptOwn s.history) is ∙ sym (append-nil (KeptOwn old.history));
-    seen = ([], ap (λ (s : Known M C R). s.history) is ∙ sym (append-nil old.history));
-    there = λ before. subst (λ (s : Known M C R). ArePlaced (length states) (turns_of seat s.history)) (sym is) before;
-  }
+  stays : (old new : Known M C R) → old.number ≡ seat → HasSeenMore old new → Grown old [] new
+  stays old new number_is more =
+      let same : turns_of seat new.history ≡ turns_of seat old.history =
+      (λ i. turns_of (sym (more.same.1 ∙ number_is) i) new.history) ∙ more.no_turn ∙ ap (λ n. turns_of n old.history) number_is in
+      record {
+        number_is = more.same.1 ∙ number_is;
+        own = ap (map keep) same ∙ sym (append-nil (KeptOwn old.history));
+        seen = more.seen;
+        there = λ before. subst (ArePlaced (length states)) (sym same) before;
+      }
 
   after_one : (old mid new : Known M C R) (c : CallAt C R) (later : List (CallAt C R)) → Grown old (c ∷ []) mid → Grown mid later new → Grown old (c ∷ later) new
   after_one old mid new c later first second = record {
@@ -161,7 +185,7 @@ module _ {M C R : Type 0} (turns : M → ℕ → ℕ → C → R → M → Type 
   ]
 
   pub all_grown : (calls : List (CallAt C R)) (old new : Known M C R) → old.number ≡ seat → Calls old calls new → Grown old calls new
-  all_grown [] old new number_is same = stays old new number_is same
+  all_grown [] old new number_is more = stays old new number_is more
   all_grown (c ∷ calls) old new number_is (mid, call, later) =
       let first = called old mid c number_is call in
       after_one old mid new c calls first (all_grown calls mid new first.number_is later)
@@ -219,17 +243,14 @@ module _ {M C R : Type 0} (turns : M → ℕ → ℕ → C → R → M → Type 
           }
     ]
 
-    on : (early later : List (Turn C R)) → StartsWith history later → StartsWith later early → StartsWith history early
-    on early later seen grown = (grown.0 ++ seen.0, seen.1 ∙ ap (λ l. l ++ seen.0) grown.1 ∙ append_assoc early grown.0 seen.0)
-
     pub all_lacked : (calls before : List (CallAt C R)) (old new : Known M C R) → old.number ≡ seat → KeptOwn old.history ≡ kept memory.is_lacking (turns_by seat before) → StartsWith history new.history →
         Calls old calls new → AllLacked before calls
-    all_lacked [] before old new number_is own seen same = tt
+    all_lacked [] before old new number_is own seen more = tt
     all_lacked (c ∷ calls) before old new number_is own seen (mid, call, later) =
         let first = called old mid c number_is call in
         let rest = all_grown calls mid new first.number_is later in
         let own_then : KeptOwn mid.history ≡ kept memory.is_lacking (turns_by seat (before ++ c ∷ [])) =
         first.own ∙ ap (λ ts. ts ++ keep (turn_by seat c) ∷ []) own ∙ sym (map-append keep (turns_by seat before) (turn_by seat c ∷ [])) ∙ ap (map keep) (sym (map-append (turn_by seat) before (c ∷ []))) in (
-          lacked before old mid c number_is own (on mid.history new.history seen rest.seen) call,
+          lacked before old mid c number_is own (starts_again history new.history mid.history seen rest.seen) call,
           all_lacked calls (before ++ c ∷ []) mid new first.number_is own_then seen later,
         )

@@ -37,7 +37,7 @@ use Rattle.cops_whole.specs.Clients.{AnswerClients, AreSessionsOf, conversations
 use Rattle.cops_whole.specs.Threads.{AreCallsOfActors}
 use Rattle.cops_whole.proofs.Crews.{all_numbered, by_own_number, run_of_crew}
 use Rattle.cops_whole.proofs.Histories.{how_many, opened_at}
-use Rattle.cops_whole.proofs.SeatsStay.{HasMetNone, StaysSeat, later_seat, met_none, same_seat}
+use Rattle.cops_whole.proofs.SeatsStay.{HasMetNone, StaysSeat, later_seat, met_none, same_seat, told_seat}
 use Rattle.cops_whole.proofs.SeatThreads.{carries, collected, serves, sessions_served}
 use Rattle.cops_whole.proofs.Services.{tenants_of_service}
 use Rattle.cops_whole.proofs.Threads.{both, none}
@@ -103,7 +103,7 @@ module _ (config : Config) (cluster : Gates Shared) where
 
   after_turns : (slot : ℕ) (turns : List CallTurn) (old new : NodeSeat) → MadeCalls slot old turns new → StaysSeat old new
   after_turns slot [] old new same = same_seat old new same
-  after_turns slot (t ∷ turns) old new (mid, call, later) = later_seat old mid new (record { number = call.1.same.1; met = call.1.met }) (after_turns slot turns mid new later)
+  after_turns slot (t ∷ turns) old new (mid, call, later) = later_seat old mid new (told_seat old mid call.1) (after_turns slot turns mid new later)
 
   after_all : (actors : List SlotActor) (old new : NodeSeat) → MakesAll (IsCallAtShard config cluster) old actors new → StaysSeat old new
   after_all [] old new same = same_seat old new same

@@ -1,6 +1,7 @@
 -- The seats that the threads of a service gave back, whose tenants come and go, did deeds in their lives.
-use Rattle.std.proofs.Common.{◌≡◌, ◌≢◌, ℕ, ◌*◌, ◌<◌, ◌&&◌, true, false, cond, nat_eq, List, [], ◌∷◌, ◌++◌, map, length, inl, inr, refl, sym, ◌∙◌, ap, subst, append_assoc, arith}
-use Rattle.std.specs.Prelude.{None}
+use Rattle.std.proofs.Common.{◌≡◌, ◌≢◌, ℕ, ◌*◌, ◌<◌, ◌≤◌, ◌&&◌, true, false, cond, nat_eq, List, [], ◌∷◌, ◌++◌, map, length, inl, inr, refl, sym, ◌∙◌, ap, subst, append_assoc, arith}
+use Rattle.std.specs.Prelude.{None, slice_get}
+use mathlib.Core.Logic.{∥∥₁_elim}
 use Rattle.std.specs.List.{AllByRecursion}
 use Rattle.std.proofs.lemmas.Bool.{eqb-true}
 use mathlib.Core.Option.{some}
@@ -8,7 +9,7 @@ use lib.ListN.{get_elem?}
 use Rattle.cops_types.specs.declared.configs.Config.{Config}
 use Rattle.cops_types.specs.declared.configs.Tenant.{Tenant}
 use Rattle.cops_types.specs.TenantConfig.{tenant_config}
-use Rattle.cops_types.proofs.Elements.{and_left, and_right}
+use Rattle.cops_types.proofs.Elements.{Every-append, and_left, and_right}
 use Rattle.cops_gate.specs.Accounts.{no_account}
 use Rattle.cops_gate.specs.History.{Leads, turns_at, turns_of}
 use Rattle.cops_gate.specs.Rule.{AreDistinctNumbers, Met}
@@ -21,6 +22,7 @@ use Rattle.cops_node.specs.declared.hosted.SlotCall.TheVariants.{Own}
 use Rattle.cops_node.specs.declared.hosted.SlotReply.{SlotReply}
 use Rattle.cops_node.specs.Hosting.{Hosted, IsSlotTurn}
 use Rattle.cops_node.specs.Parts.{Shared}
+use Rattle.cops_service.specs.Admitted.{HasItsLife}
 use Rattle.cops_service.specs.Gates.{Gates, HasNoTurn, openings}
 use Rattle.cops_service.specs.Hosted.{HostedLog}
 use Rattle.cops_service.specs.HostedCrews.{Hosting}
@@ -39,28 +41,19 @@ use Rattle.cops_whole.specs.LivesRuns.{Deed, DoesAll, DoesOne, IsLivesRun, IsLog
 use Rattle.cops_whole.specs.LivesRuns.Deed.{Acts, Hosts}
 use Rattle.cops_whole.specs.ServedLives.{AreServedByDeeds, GreetAs, HasLife, HasTicketsForLives, IsUntilUnknown, ServesLivesCausally}
 use Rattle.cops_whole.specs.Services.{IsNumbered, SeatDeeds, did_by, past_numbers}
-use Rattle.cops_whole.proofs.Admissions.{HostDid, Line, all_followed, began_own, hosts_alone, hosts_behave}
+use Rattle.cops_whole.proofs.Admissions.{HostDid, IsAskedFrom, IsForTenant, Line, all_followed, all_weaker, began_own, hosts_alone, hosts_behave}
 use Rattle.cops_whole.proofs.Crews.{all_numbered, all_within, by_number, by_own_number, no_turns, none_past}
-use Rattle.cops_whole.proofs.LifeDeeds.{BehavesAs, CallsThere, Deeds, DoesAllThere, DoesOneThere, IsHostTold, Sessions, all_carried, all_collected, all_served}
-use Rattle.cops_whole.proofs.LifeTimes.{IsHostsOnly, hosts_only, never_before, once_or_never}
+use Rattle.cops_whole.proofs.LifeDeeds.{BehavesAs, CallsThere, Deeds, DoesAllThere, DoesOneThere, IsHostTold, Sessions, after_all, after_turns, all_carried, all_collected, all_served}
+use Rattle.cops_whole.proofs.LifeTimes.{IsHostsOnly, admissions_so, all_entries_for, hosts_only, never_before, once_or_never}
 use Rattle.cops_whole.proofs.LivesRuns.{life_served, log_of_lives, many_states, new_state}
+use Rattle.cops_whole.proofs.Nodes.{some_same}
 use Rattle.cops_whole.proofs.ServedBy.{get_there}
-use Rattle.cops_whole.proofs.SeatsStay.{HasMetNone, StaysSeat, later_seat, met_none, met_none_before, same_seat}
+use Rattle.cops_whole.proofs.SeatsStay.{HasMetNone, met_none, met_none_before}
+use Rattle.cops_whole.proofs.SeenMore.{seen_none}
+use Rattle.cops_whole.proofs.ShownLives.{IsShown, admitted_so, same_once, seat_shown}
 
 module _ (config : Config) (cluster : Gates Hosted) (shards : cluster.shards ≡ config.shards) where
   -- ---- calls with tickets
-
-  after_turns : (slot life : ℕ) (ts : List CallTurn) (old new : HostedSeat) → MakesTurns (CallsThere config cluster slot life) slot old ts new → StaysSeat old new
-  after_turns slot life [] old new same = same_seat old new same
-  after_turns slot life (t ∷ ts) old new (mid, (below, (answer, reply_is, call)), later) = later_seat old mid new (record { number = call.same.1; met = call.met }) (after_turns slot life ts mid new later)
-
-  after_one : (deed : Deed) (old new : HostedSeat) → DoesOneThere config cluster old deed new → StaysSeat old new
-  after_one (Acts a) old new did = after_turns a.slot a.life (turns_of_told a.did) old new did
-  after_one (Hosts c) old new (is, call) = record { number = call.same.1; met = call.met }
-
-  after_all : (deeds : List Deed) (old new : HostedSeat) → DoesAllThere config cluster old deeds new → StaysSeat old new
-  after_all [] old new same = same_seat old new same
-  after_all (deed ∷ deeds) old new (mid, one, later) = later_seat old mid new (after_one deed old mid one) (after_all deeds mid new later)
 
   abbrev states : List Hosted
   states = openings cluster
@@ -82,7 +75,7 @@ module _ (config : Config) (cluster : Gates Hosted) (shards : cluster.shards ≡
   turns_ticketed slot life (t ∷ ts) old new none_met (mid, (below, (answer, reply_is, call)), later) =
       let made : IsSlotTurnAt states old (record { node = node_number config.shards t.node; entry = slot_entry slot t.moment (Own life t.call) answer }) mid =
       subst (λ n. IsSlotTurnAt states old (record { node = node_number n t.node; entry = slot_entry slot t.moment (Own life t.call) answer }) mid) shards
-      (ticketed (record { node = node_number cluster.shards t.node; entry = slot_entry slot t.moment (Own life t.call) answer }) old mid (met_none_before mid new (after_turns slot life ts mid new later) none_met) call) in
+      (ticketed (record { node = node_number cluster.shards t.node; entry = slot_entry slot t.moment (Own life t.call) answer }) old mid (met_none_before mid new (after_turns config cluster slot life ts mid new later) none_met) call) in
       (mid, (below, answer, reply_is, made), turns_ticketed slot life ts mid new none_met later)
 
   one_ticketed : (deed : Deed) (old new : HostedSeat) → HasMetNone new → DoesOneThere config cluster old deed new → DoesOne config.shards states old deed new
@@ -90,9 +83,9 @@ module _ (config : Config) (cluster : Gates Hosted) (shards : cluster.shards ≡
   one_ticketed (Hosts c) old new none_met (is, call) = (is, ticketed c old new none_met call)
 
   all_ticketed : (deeds : List Deed) (old new : HostedSeat) → HasMetNone new → DoesAllThere config cluster old deeds new → DoesAll config.shards states old deeds new
-  all_ticketed [] old new none_met same = same
-  all_ticketed (deed ∷ deeds) old new none_met (mid, one, later) =
-      (mid, one_ticketed deed old mid (met_none_before mid new (after_all deeds mid new later) none_met) one, all_ticketed deeds mid new none_met later)
+  all_ticketed [] old new none_met more = more
+  all_ticketed (deed ∷ deeds) old new none_met (seen, more, mid, one, later) =
+      (seen, more, mid, one_ticketed deed seen mid (met_none_before mid new (after_all config cluster deeds mid new later) none_met) one, all_ticketed deeds mid new none_met later)
 
   -- ---- all seats
 
@@ -118,7 +111,7 @@ module _ (config : Config) (cluster : Gates Hosted) (shards : cluster.shards ≡
     record {
       first = all.0.first;
       last = s;
-      number_is = sym (after_all all.0.deeds all.0.first s all.0.did).number;
+      number_is = sym (after_all config cluster all.0.deeds all.0.first s all.0.did).number;
       no_turn = all.0.no_turn;
       did = all_ticketed all.0.deeds all.0.first s none_met.0 all.0.did;
       all_of = seen.0;
@@ -128,7 +121,7 @@ module _ (config : Config) (cluster : Gates Hosted) (shards : cluster.shards ≡
 
   -- a seat that made no turn did nothing
   idle : (history : HostedLog) (number : ℕ) → turns_of number history ≡ [] → SeatDidDeeds config states history number []
-  idle history number nothing = record { first = unused; last = unused; number_is = refl; no_turn = refl; did = refl; all_of = ((history, refl), nothing) }
+  idle history number nothing = record { first = unused; last = unused; number_is = refl; no_turn = refl; did = seen_none unused; all_of = ((history, refl), nothing) }
     where
       unused : HostedSeat
       unused = record { gate = gate_home cluster.gate; number = number; history = []; spent = []; account = no_account }
@@ -151,8 +144,11 @@ module _ (config : Config) (tenant : Tenant) (slot life : ℕ) where
         | false ↦ λ differ. commands_behave deeds behave.1
       ] refl
 
-  -- the sessions of clients that greeted as this tenant
-  sessions_behave : (clients : List LifeConversation) (deeds : List Deed) → AreSessionsInLives config clients deeds → GreetAs tenant slot life clients → BehaveAs deeds
+  -- if the client was greeted in this life, it was greeted as this tenant
+  abbrev GreetsAs : LifeConversation → Type 0
+  GreetsAs c = c.life.slot ≡ slot → c.life.number ≡ life → c.tenant ≡ tenant
+
+  sessions_behave : (clients : List LifeConversation) (deeds : List Deed) → AreSessionsInLives config clients deeds → AllByRecursion GreetsAs clients → BehaveAs deeds
   sessions_behave [] [] are greet = tt
   sessions_behave [] (d ∷ deeds) are greet = absurd are
   sessions_behave (c ∷ clients) [] are greet = absurd are
@@ -270,38 +266,43 @@ module _ {M : Type 0} (Gives : M → ℕ → M → Type 0) (moments : M) (who : 
 
   -- ---- behaviour
 
+  abbrev history : HostedLog
+  history = served.log
+
+  all_of : AllByRecursion (HasAllOf history) seats
+  all_of = subst (AllByRecursion (HasAllOf history)) seats_are (subst (λ h. AllByRecursion (HasAllOf h) served.seen.seats) (sym served.whole) served.seen.all)
+
   module _ (slot life : ℕ) where
     abbrev Behave : SeatDeeds Deed → Type 0
     Behave s = BehaveAs config (who slot life) slot life s.did
 
-    rest_of : (first second : List LifeConversation) → GreetAs (who slot life) slot life (first ++ second) → GreetAs (who slot life) slot life second
-    rest_of [] second greet = greet
-    rest_of (c ∷ first) second greet = rest_of first second greet.1
+    -- each client is so, of whose life the history shows that it is the client's tenant's
+    module _ (greets : (c : LifeConversation) → IsShown config cluster history c → GreetsAs config (who slot life) slot life c) where
+      greet_there : (seat : HostedSeat) (done : Worker seat) → HasAllOf history seat → GreetAs (who slot life) slot life (clients_of Gives moments config cluster seat done)
+      greet_there seat done seen =
+          all_weaker (IsShown config cluster history) (GreetsAs config (who slot life) slot life) (clients_of Gives moments config cluster seat done) greets (seat_shown config cluster Gives some_shards moments history seat done seen)
 
-    front_of : (first second : List LifeConversation) → GreetAs (who slot life) slot life (first ++ second) → GreetAs (who slot life) slot life first
-    front_of first second greet = all_prefix (λ (c : LifeConversation). c.life.slot ≡ slot → c.life.number ≡ life → c.tenant ≡ who slot life) first second greet
+      all_greet : (these : List HostedSeat) (all : AllByRecursion Worker these) → AllByRecursion (HasAllOf history) these → GreetAs (who slot life) slot life (clients_of_all Gives moments config cluster these all)
+      all_greet [] all seen = tt
+      all_greet (s ∷ these) all seen = Every-append (GreetsAs config (who slot life) slot life) (clients_of Gives moments config cluster s all.0) (clients_of_all Gives moments config cluster these all.1) (greet_there s all.0 seen.0) (all_greet these all.1 seen.1)
 
-    behave_first : (these rest : List HostedSeat) (all : AllByRecursion Worker these) (more : AllByRecursion Seat rest) → GreetAs (who slot life) slot life (clients_of_all Gives moments config cluster these all) →
-        AllByRecursion Behave (crew_of config cluster served.shards rest more) → AllByRecursion Behave (crew_of config cluster served.shards (these ++ rest) (with_workers these rest all more))
-    behave_first [] rest all more greet behave = behave
-    behave_first (s ∷ these) rest all more greet behave =
-        let own = clients_of Gives moments config cluster s all.0 in
-        let later = clients_of_all Gives moments config cluster these all.1 in
-        let sessions = sessions_of s all.0 in (
-          sessions_behave config (who slot life) slot life own sessions.deeds sessions.are (front_of own later greet),
-          behave_first these rest all.1 more (rest_of own later greet) behave,
-        )
+      behave_first : (these rest : List HostedSeat) (all : AllByRecursion Worker these) (more : AllByRecursion Seat rest) → AllByRecursion (HasAllOf history) these → AllByRecursion Behave (crew_of config cluster served.shards rest more) →
+          AllByRecursion Behave (crew_of config cluster served.shards (these ++ rest) (with_workers these rest all more))
+      behave_first [] rest all more seen behave = behave
+      behave_first (s ∷ these) rest all more seen behave =
+          let sessions = sessions_of s all.0 in (
+            sessions_behave config (who slot life) slot life (clients_of Gives moments config cluster s all.0) sessions.deeds sessions.are (greet_there s all.0 seen.0),
+            behave_first these rest all.1 more seen.1 behave,
+          )
 
-    all_behave : GreetAs (who slot life) slot life (clients_of_all Gives moments config cluster workers_seats are_workers) → AllByRecursion Behave crew
-    all_behave greet = behave_first workers_seats others are_workers acted_others greet (hosts_behave config (who slot life) slot life host_did.calls, (carrier_deeds.behave slot life, (collector_deeds.behave slot life, tt)))
+      all_behave : AllByRecursion Behave crew
+      all_behave = behave_first workers_seats others are_workers acted_others (all_prefix (HasAllOf history) workers_seats others all_of)
+          (hosts_behave config (who slot life) slot life host_did.calls, (carrier_deeds.behave slot life, (collector_deeds.behave slot life, tt)))
 
-    seat_behaves : GreetAs (who slot life) slot life (clients_of_all Gives moments config cluster workers_seats are_workers) → (seat : ℕ) → AllByRecursion (Behaves (tenant_config config (who slot life)) None) (commands_in_life slot life (did_by crew seat))
-    seat_behaves greet seat = commands_behave config (who slot life) slot life (did_by crew seat) (by_number (λ number deeds. BehaveAs config (who slot life) slot life deeds) crew (all_behave greet) seat (λ none_there. tt))
+      seat_behaves : (seat : ℕ) → AllByRecursion (Behaves (tenant_config config (who slot life)) None) (commands_in_life slot life (did_by crew seat))
+      seat_behaves seat = commands_behave config (who slot life) slot life (did_by crew seat) (by_number (λ number deeds. BehaveAs config (who slot life) slot life deeds) crew all_behave seat (λ none_there. tt))
 
   -- ---- the run
-
-  abbrev history : HostedLog
-  history = served.log
 
   numbers_there : map (λ (s : SeatDeeds Deed). s.number) crew ≡ map (λ (s : HostedSeat). s.number) served.seen.seats
   numbers_there = numbers_are config cluster served.shards seats all_acted ∙ ap (map (λ (s : HostedSeat). s.number)) (sym seats_are)
@@ -323,17 +324,15 @@ module _ {M : Type 0} (Gives : M → ℕ → M → Type 0) (moments : M) (who : 
       served.leaves.1 number (new_hosted config number) node (new_state config (openings cluster) served.opened served.lives number within) at
 
   run : HasTicketsForLives history → IsLivesRun config (openings cluster) history (past_numbers crew) (did_by crew)
-  run few =
-      let seen = subst (AllByRecursion (HasAllOf history)) seats_are (subst (λ h. AllByRecursion (HasAllOf h) served.seen.seats) (sym served.whole) served.seen.all) in
-      record {
-        opened = served.opened;
-        lives = served.lives;
-        legal = λ number within. let node = there_at served.left number (subst (λ n. number < n) (sym many) within) in (node.0, left_there number node.0 node.1);
-        seated = all_within crew history made_there;
-        did = λ number below. by_number (SeatDidDeeds config (openings cluster) history) crew (all_did config cluster served.shards history seats all_acted seen (none_met few)) number
-            (λ none_there. idle config cluster served.shards history number (no_turns crew number history none_there made_there));
-        few = λ number past. none_past crew number past;
-      }
+  run few = record {
+    opened = served.opened;
+    lives = served.lives;
+    legal = λ number within. let node = there_at served.left number (subst (λ n. number < n) (sym many) within) in (node.0, left_there number node.0 node.1);
+    seated = all_within crew history made_there;
+    did = λ number below. by_number (SeatDidDeeds config (openings cluster) history) crew (all_did config cluster served.shards history seats all_acted all_of (none_met few)) number
+        (λ none_there. idle config cluster served.shards history number (no_turns crew number history none_there made_there));
+    few = λ number past. none_past crew number past;
+  }
 
   -- ---- whose lives they are
 
@@ -389,20 +388,40 @@ module _ {M : Type 0} (Gives : M → ℕ → M → Type 0) (moments : M) (who : 
               once_or_never host slot life log prefix until.later until.are others_quiet host_did.calls host_calls tenant (λ node. host_did.once node slot life) known.own number,
             )
 
+    -- the tenant of a client that was greeted in the life
+    its_tenant : (tenant : Tenant) (slot life : ℕ) → HasLife Gives moments config workers nodes open_tenants served tenant slot life → (c : LifeConversation) → HasItsLife config cluster c.life c.tenant history → GreetsAs config tenant slot life c
+    its_tenant tenant slot life (inl (first, found)) c (inl (its, same)) at is = some_same c.tenant tenant (sym same ∙ ap (slice_get config.tenants) at ∙ found)
+    its_tenant tenant slot life (inl (first, found)) c (inr all) at is =
+        let asked : AllByRecursion (IsAskedFrom 1 open_tenants.next) (host_calls_by host log) = subst (AllByRecursion (IsAskedFrom 1 open_tenants.next)) (sym host_calls) host_did.asked in
+        let above : 1 ≤ c.life.number = (admitted_so (λ n t. (1 ≤ n) × (n < open_tenants.next)) log history is_log.kept (admissions_so host (λ n t. (1 ≤ n) × (n < open_tenants.next)) log others_quiet asked) 0 c.life c.tenant (all.each 0 all.some)).0 in
+        absurd (omega (arith, above, is, first))
+    its_tenant tenant slot life (inr began) c (inl (its, same)) at is =
+        let above = (began_own config cluster tenant slot life lines_count first_hosting last_hosting lines began).above in
+        absurd (omega (arith, above, is, its))
+    its_tenant tenant slot life (inr began) c (inr all) at is =
+        let known = began_own config cluster tenant slot life lines_count first_hosting last_hosting lines began in
+        let own : AllByRecursion (IsForTenant tenant life) (host_calls_by host log) = subst (AllByRecursion (IsForTenant tenant life)) (sym host_calls) known.own in
+        admitted_so (λ other its. other ≡ life → its ≡ tenant) log history is_log.kept (all_entries_for host tenant life log others_quiet own) 0 c.life c.tenant (all.each 0 all.some) is
+
+    -- as the history shows
+    tenant_of : (tenant : Tenant) (slot life : ℕ) → HasLife Gives moments config workers nodes open_tenants served tenant slot life → (c : LifeConversation) → IsShown config cluster history c → GreetsAs config tenant slot life c
+    tenant_of tenant slot life has c shown at is = ∥∥₁_elim shown (same_once c.tenant tenant) (λ its. its_tenant tenant slot life has c its at is)
+
   causally : HasTicketsForLives history → ServesLivesCausally (HasLife Gives moments config workers nodes open_tenants served) who config history served.left crew (clients_of_all Gives moments config cluster workers_seats are_workers)
   causally few =
       let is_run = run few in
       let found = log_of_lives config (openings cluster) history (past_numbers crew) (did_by crew) is_run in
-      let lives = (λ (slot life : ℕ) (prefix : List SlotTurn) (has : HasLife Gives moments config workers nodes open_tenants served (who slot life) slot life) (until : IsUntilUnknown slot life prefix found.0) (greet : GreetAs (who slot life) slot life (clients_of_all Gives moments config cluster workers_seats are_workers)).
-      life_served config history (past_numbers crew) (did_by crew) found.0 prefix (who slot life) slot life some_shards is_run.few found.1 (time_of found.0 found.1 (who slot life) slot life prefix has until) (seat_behaves slot life greet)) in
+      let lives = (λ (slot life : ℕ) (prefix : List SlotTurn) (has : HasLife Gives moments config workers nodes open_tenants served (who slot life) slot life) (until : IsUntilUnknown slot life prefix found.0).
+      life_served config history (past_numbers crew) (did_by crew) found.0 prefix (who slot life) slot life some_shards is_run.few found.1 (time_of found.0 found.1 (who slot life) slot life prefix has until) (seat_behaves slot life (tenant_of found.0 found.1 (who slot life) slot life has))) in
       record {
         log = found.0;
         is_log = found.1;
+        greet = λ slot life has. all_greet slot life (tenant_of found.0 found.1 (who slot life) slot life has) workers_seats are_workers (all_prefix (HasAllOf history) workers_seats others all_of);
         lives = lives;
-        holds = λ slot life number node held has until greet at holds its.
+        holds = λ slot life number node held has until at holds its.
             let there : get_elem? served.left number ≡ some node = get_there served.left number node at in
             let within : number < config.data_centres * config.shards = subst (λ n. number < n) many (at_below served.left number node there) in
-            holds_lived config (who slot life) slot life some_shards found.0 found.0 found.1.hosted (time_of found.0 found.1 (who slot life) slot life found.0 has until) (λ seat. commands_in_life slot life (did_by crew seat)) (lives slot life found.0 has until greet) number node held within
+            holds_lived config (who slot life) slot life some_shards found.0 found.0 found.1.hosted (time_of found.0 found.1 (who slot life) slot life found.0 has until) (λ seat. commands_in_life slot life (did_by crew seat)) (lives slot life found.0 has until) number node held within
             (found.1.leads number node within (left_there number node there)) holds its;
       }
 

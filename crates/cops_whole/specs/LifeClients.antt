@@ -57,8 +57,8 @@ AreSessionsInLives config (c ∷ conversations) (deed ∷ deeds) = IsSessionDeed
 module _ {M : Type 0} (Gives : M → ℕ → M → Type 0) (moments : M) (config : Config) (cluster : Gates Hosted) where
   -- a client that was served to the end or in part, and none if its greeting was refused
   abbrev pub served_once : (first last : HostedSeat × M) → ServesInLife config cluster Gives first last → List LifeConversation
-  served_once first last (inl same) = []
-  served_once first last (inr (life, tenant, h)) = map (in_life life tenant) (conversation_in (CallsInLife cluster life) Gives (with_tenant_alone config tenant) first.0 last.0 first.1 last.1 h)
+  served_once first last (inl none) = []
+  served_once first last (inr (seen, more, life, tenant, shown, h)) = map (in_life life tenant) (conversation_in (CallsInLife cluster life) Gives (with_tenant_alone config tenant) seen last.0 first.1 last.1 h)
 
   abbrev pub served_in : (count : ℕ) (first last : HostedSeat × M) → Repeats (ServesInLife config cluster Gives) count first last → List LifeConversation
   served_in zero first last same = []

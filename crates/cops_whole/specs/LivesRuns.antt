@@ -17,6 +17,7 @@ use Rattle.cops_node.specs.declared.hosted.SlotReply.{SlotReply}
 use Rattle.cops_node.specs.declared.hosted.SlotReply.TheVariants as told
 use Rattle.cops_node.specs.Hosting.{Hosted, IsSlotTurn}
 use Rattle.cops_node.specs.Lacking.{MayLackAtSlot}
+use Rattle.cops_service.specs.Gates.{HasSeenMore}
 use Rattle.cops_service.specs.Hosted.{HostedEntry, HostedLog}
 use Rattle.cops_service.specs.HostedDesks.{HostedSeat, IsInFirstLives, hosted_node}
 use Rattle.cops_history.specs.History.{Told, turns_by}
@@ -66,10 +67,11 @@ abbrev pub DoesOne : ℕ → List Hosted → HostedSeat → Deed → HostedSeat 
 DoesOne shards states old (Acts actor) new = MakesTurns (IsTurnInLife shards states actor.life) actor.slot old (turns_of_told actor.did) new
 DoesOne shards states old (Hosts c) new = (is_of_host c.entry.call ≡ true) × IsSlotTurnAt states old c new
 
--- one after another
+-- one after another; the seat may see more before each, and in the end
 abbrev pub DoesAll : ℕ → List Hosted → HostedSeat → List Deed → HostedSeat → Type 0
-DoesAll shards states old [] new = new ≡ old
-DoesAll shards states old (deed ∷ deeds) new = (mid : HostedSeat) × DoesOne shards states old deed mid × DoesAll shards states mid deeds new
+DoesAll shards states old [] new = HasSeenMore old new
+DoesAll shards states old (deed ∷ deeds) new =
+    (seen : HostedSeat) × HasSeenMore old seen × (mid : HostedSeat) × DoesOne shards states seen deed mid × DoesAll shards states mid deeds new
 
 abbrev pub joins_life : ℕ → ℕ → Deed → List (List Told) → List (List Told)
 joins_life slot life (Acts actor) rest = if nat_eq actor.slot slot && nat_eq actor.life life then actor.did ∷ rest else rest

@@ -29,7 +29,7 @@ use Rattle.cops_whole.specs.Services.{SeatDeeds, did_by}
 abbrev pub HasTicketsForLives : HostedLog → Type 0
 HasTicketsForLives history = (node : ℕ) → length (turns_at node history) < 2 ^ 62
 
--- each client that was greeted in this life was greeted as this tenant
+-- each client that was served in this life was greeted as this tenant
 abbrev pub GreetAs : Tenant → ℕ → ℕ → List LifeConversation → Type 0
 GreetAs tenant slot life clients = AllByRecursion (λ (c : LifeConversation). c.life.slot ≡ slot → c.life.number ≡ life → c.tenant ≡ tenant) clients
 
@@ -64,15 +64,16 @@ pub record IsUntilUnknown (slot life : ℕ) (prefix log : List SlotTurn) : Type 
 -- ---- the service
 
 -- One log of all calls of the service serves each life causally until one of its calls gets `UnknownTenant`. If none does, a node that has the life in
--- the end holds what its acts leave. `who` is the tenant of each life of a slot.
+-- the end holds what its acts leave. `who` is the tenant of each life of a slot: the clients of the life were greeted as this tenant.
 pub record ServesLivesCausally (Has : Tenant → ℕ → ℕ → Type 0) (who : ℕ → ℕ → Tenant) (config : Config) (history : HostedLog) (left : List Hosted) (crew : List (SeatDeeds Deed)) (clients : List LifeConversation) : Type 0 where
   pub log : List SlotTurn
   pub is_log : IsLogOfLives config history (did_by crew) log
-  pub lives : (slot life : ℕ) (prefix : List SlotTurn) → Has (who slot life) slot life → IsUntilUnknown slot life prefix log → GreetAs (who slot life) slot life clients →
+  pub greet : (slot life : ℕ) → Has (who slot life) slot life → GreetAs (who slot life) slot life clients
+  pub lives : (slot life : ℕ) (prefix : List SlotTurn) → Has (who slot life) slot life → IsUntilUnknown slot life prefix log →
       LivesCausally config (who slot life) slot life prefix (λ seat. commands_in_life slot life (did_by crew seat))
-  pub holds : (slot life number : ℕ) (node : Hosted) (held : Held) (has : Has (who slot life) slot life) (known : IsUntilUnknown slot life log log) (greet : GreetAs (who slot life) slot life clients) →
+  pub holds : (slot life number : ℕ) (node : Hosted) (held : Held) (has : Has (who slot life) slot life) (known : IsUntilUnknown slot life log log) →
       slice_get left number ≡ Some node → slot_holds slot node ≡ Some held → held.life ≡ life →
-      held ≡ held_there config (who slot life) life number (node_numbered (tenant_config config (who slot life)) number (lives slot life log has known greet).acts.run.left.nodes)
+      held ≡ held_there config (who slot life) life number (node_numbered (tenant_config config (who slot life)) number (lives slot life log has known).acts.run.left.nodes)
 
 -- What the threads' seats did are the sessions of its clients, carriers, collections, and the host's calls. If no node ran out of tickets, each life was
 -- served causally.

@@ -256,7 +256,7 @@ pub fn lives_of_services_are_served_causally()
 /// serves each life causally until one of its calls gets `UnknownTenant`: each life of the configuration's tenants, and each that
 /// a line of the host began. A node that has the life in the end holds what its acts leave.
 ///
-/// `who` is the tenant of each life. A life counts if each client that was greeted in it greeted as this tenant.
+/// `who` is the tenant of each life. Clients that were served in a life were greeted as its tenant.
 pub fn lives_serve_causally<M: Moments>()
     ensures { (config : Config) (workers : ℕ) (moments : M) (nodes : List Shared)
         (open_tenants : Roster) (who : ℕ → ℕ → Tenant)

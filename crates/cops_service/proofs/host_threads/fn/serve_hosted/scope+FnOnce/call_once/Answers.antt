@@ -2,4 +2,4 @@ use Rattle.cops_service.proofs.host_threads.fn.serve_hosted.scope+FnOnce.call_on
 
 -- what the threads' bounds ask, and then what the closure asks
 pub scope-requires : goal.scope-requires
-scope-requires g c = let asked = c.requires.1.1.1 in (asked.1.0, (asked.1.1, (asked.1.2, asked.0)))
+scope-requires g c = assumption c.requires
