@@ -1,5 +1,5 @@
 -- A session stands for that of the definitions, after each call too.
-use Rattle.std.proofs.Common.{◌≡◌, ℕ, ◌+◌, ◌==◌, Bool, true, false, List, [], ◌∷◌, length, refl, sym, ◌∙◌, ap, subst, arith}
+use Rattle.std.proofs.Common.{◌≡◌, ℕ, ◌+◌, ◌<◌, ◌==◌, Bool, true, false, List, [], ◌∷◌, length, refl, sym, ◌∙◌, ap, subst, arith}
 use Rattle.std.specs.Prelude.{MatchResult, Option, Some, None, Result, Ok, Err, is_some, nat_le, nat_lt, not}
 use Rattle.std.proofs.lemmas.Bool.Decides.{nat_tests}
 use Rattle.cops_types.specs.declared.faults.Fault.{Fault}
@@ -13,17 +13,17 @@ use Rattle.cops_context.specs.Lists.{Lists, ListsStandFor}
 use Rattle.cops_handles.specs.declared.tables.Open.{Open}
 use Rattle.cops_handles.specs.Rows.{closed, open_refusal, opened, row_at}
 use Rattle.cops_session.specs.declared.ongoing.Ongoing.{Ongoing}
-use Rattle.cops_session.specs.declared.ongoing.Round.TheVariants.{First}
 use Rattle.cops_session.specs.declared.ongoing.Work.TheVariants.{Put, Get}
 use Rattle.cops_session.specs.declared.ongoing.PendingPut.{PendingPut}
 use Rattle.cops_session.specs.Kept.{KeptSession, is_running}
 use Rattle.cops_session.specs.Reading.{IsReading}
 use Rattle.cops_model.specs.Request.{Fetch, Request, Write, request_calls}
-use Rattle.cops_session.specs.Rounds.{FirstReads}
+use Rattle.cops_session.specs.Rounds.{SecondReads}
+use Rattle.cops_session.proofs.RoundsStand.{begun_stands}
 use Rattle.cops_model.specs.Session.{Running, Session, context_created, context_deleted, context_refusal, create_refusal, get_refusal, has_repeats, obs_of, request_begun, session_put_refusal, is_spent}
 use Rattle.cops_session.specs.SessionStands.{ContextsStandFor, RunningStandsFor, SessionStandsFor}
 use Rattle.cops_session.specs.Stepping.{runs}
-use Rattle.cops_session.specs.Stands.{AreDistinctKeys, IsFirstOf}
+use Rattle.cops_session.specs.Stands.{AreDistinctKeys}
 use Rattle.cops_session.proofs.ContextRows.{ContextsStandFor-closed, ContextsStandFor-opened, is_open-none, is_open-some, length-stands}
 
 -- ---- idle
@@ -150,20 +150,20 @@ module _ (config : TenantConfig) (kept : KeptSession) (session : Session) (stand
         running_is = (stands.next_request_is, refl, record { action_is = refl; no_step = refl; deps_are = deps; near_are = near });
       })
 
-  pub SessionStandsFor-get_begun : (number : ℕ) (after : KeptSession) (keys : List (List ℕ)) (round : FirstReads) → AreDistinctKeys keys → IsFirstOf keys [] round →
-      after ≡ record kept { next_request = kept.next_request + 1; running = Some (record { number = kept.next_request; context = number; work = Get (record { restarts = 0; start = None; round = First round }) }) } →
+  pub SessionStandsFor-get_begun : (number : ℕ) (after : KeptSession) (keys : List (List ℕ)) (rounds : SecondReads) → AreDistinctKeys keys → 0 < length keys → rounds ≡ record { keys = keys; left = []; reads = [] } →
+      after ≡ record kept { next_request = kept.next_request + 1; running = Some (record { number = kept.next_request; context = number; work = Get (record { restarts = 0; start = None; rounds = rounds }) }) } →
       SessionStandsFor config after (request_begun number (Fetch keys) session)
-  SessionStandsFor-get_begun number after keys round distinct begun is =
+  SessionStandsFor-get_begun number after keys rounds distinct some begun is =
       let request : Request = record { dc = session.dc; obs = obs_of number session; action = Fetch keys } in
       let few : nat_lt config.restarts 0 ≡ false = grind (arith, nat_tests) in
-      let reading : IsReading config request keys [] (record { restarts = 0; start = None; round = First round }) = record {
+      let reading : IsReading config request keys [] (record { restarts = 0; start = None; rounds = rounds }) = record {
         distinct = distinct;
         restarts_are = refl;
         few_restarts = few;
         start_is = refl;
         all_replied = refl;
         no_fault = no_replies (request_calls config request [] (Fetch keys));
-        round_is = begun;
+        rounds_are = begun_stands keys rounds some begun;
       } in
       subst (λ (k : KeptSession). SessionStandsFor config k (request_begun number (Fetch keys) session)) (sym is) (record {
         setting_is = stands.setting_is;

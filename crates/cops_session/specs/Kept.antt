@@ -8,6 +8,7 @@ use Rattle.cops_session.specs.declared.ongoing.Ongoing.{Ongoing}
 use Rattle.cops_session.specs.declared.ongoing.Work.{Work}
 use Rattle.cops_session.specs.declared.ongoing.Work.TheVariants.{Put, Get}
 use Rattle.cops_session.specs.declared.settings.Setting.{Setting}
+use Rattle.cops_session.specs.Rounds.{IsUnfinished}
 
 -- the constants, the greatest timestamp so far, the open contexts, the number of the next request, and the running request
 pub record KeptSession : Type 0 where
@@ -38,9 +39,9 @@ HasRoomInContext context key rows = (lists : Lists) × (row_at context rows ≡ 
 
 abbrev pub IsReadyFor : Work → ℕ → List (Open Lists) → Type 0
 IsReadyFor (Put writing) context rows = HasRoomInContext context writing.key rows
-IsReadyFor (Get reading) context rows = IsOpen context rows
+IsReadyFor (Get reading) context rows = IsOpen context rows × IsUnfinished reading.rounds
 
--- the context of the running request is open, and has room for it
+-- the context of the running request is open and has room for it, and a transaction has a call to make
 abbrev pub IsReady : Option Ongoing → List (Open Lists) → Type 0
 IsReady None rows = Unit {0}
 IsReady (Some ongoing) rows = IsReadyFor ongoing.work ongoing.context rows

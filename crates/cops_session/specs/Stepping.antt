@@ -25,6 +25,11 @@ abbrev pub told_shown : Result Progress AllocError → Progress
 told_shown (Ok shown) = shown
 told_shown (Err error) = Done (Refused OutOfMemory)
 
+-- a fault is the answer to the request that it ends
+abbrev pub end_by_error : RequestError → Result Progress RequestError
+end_by_error (RefusedWith fault) = Ok (Done (Refused fault))
+end_by_error Lacking = Err Lacking
+
 -- the result of a step if the request runs; otherwise why no step was taken
 abbrev pub told_step : Result Progress RequestError → Result (Result Progress AllocError) Fault
 told_step (Ok shown) = Ok (Ok shown)

@@ -1,5 +1,5 @@
 use crate::kinds::Contexts;
-use crate::rounds::{FirstRound, SecondRound};
+use crate::rounds::Rounds;
 use cops_handles::Handle;
 use cops_types::{Deps, Key, Near, Value};
 
@@ -28,17 +28,10 @@ pub struct PendingPut {
 }
 
 /// A get transaction: the number of its restarts, the timestamp of its attempt's first step, and
-/// its round.
+/// its rounds.
 #[derive(Debug, Drop)]
 pub struct Reading {
     pub restarts: u64,
     pub start: Option<u64>,
-    pub round: Round,
-}
-
-/// The round of a get transaction.
-#[derive(Debug, Drop)]
-pub enum Round {
-    First(FirstRound),
-    Second(SecondRound),
+    pub rounds: Rounds,
 }

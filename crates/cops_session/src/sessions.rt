@@ -8,27 +8,22 @@ ghost use Rattle.cops_model.specs.declared.calls.NodeCall.{NodeCall};
 ghost use Rattle.cops_model.specs.declared.calls.NodeId.{NodeId};
 ghost use Rattle.cops_model.specs.declared.calls.NodeReply.{NodeReply};
 ghost use Rattle.cops_context.specs.Lists.{ListsStandFor};
-ghost use Rattle.cops_session.specs.declared.ongoing.Round.TheVariants.{First};
+ghost use Rattle.cops_session.specs.Stepping.{end_by_error};
 ghost use Rattle.cops_session.specs.declared.ongoing.Work.TheVariants as work;
-ghost use Rattle.cops_model.specs.declared.calls.NodeCall.TheVariants.{Get};
-ghost use Rattle.cops_model.specs.declared.calls.Wanted.TheVariants.{Latest};
-ghost use Rattle.cops_node.specs.ToldReplies.{told_reply};
-ghost use Rattle.cops_types.specs.Key.{shard_of};
 
-use crate::asking::{FirstAnswer, accept_latest, ask_latest};
 use crate::contexts::{prepare_put, see_put, see_reads};
 use crate::kinds::{Contexts, Running};
-use crate::ongoing::{Ongoing, PendingPut, Reading, Round, Work};
-use crate::reading::{Came, ReadStep, read_next, read_step};
+use crate::ongoing::{Ongoing, PendingPut, Reading, Work};
+use crate::reading::ReadStep;
 use crate::repeats::{are_repeated, are_too_many, has_repeats};
-use crate::rounds::{AfterFirst, FirstRound};
+use crate::rounds::Rounds;
 use crate::settings::Setting;
 use crate::writing::write_step;
 use crate::{Answer, Progress};
 use cops_context::Context;
 use cops_handles::{Handle, Table};
 use cops_model::ByteSlices;
-use cops_node::{NodeReply, Nodes};
+use cops_node::Nodes;
 use cops_types::{Config, Fault, Key, Reads, RequestError, Tenant, Value};
 use std::alloc::{AllocError, Global};
 use std::marker::Model;
@@ -66,14 +61,28 @@ fn number_refusal(next: u64) -> Option<Fault>
     }
 }
 
+/// Ends the running request.
+fn end(running: &mut Option<Ongoing>)
+    ensures { running.new ≡ None }
+{
+    *running = None;
+}
+
+/// Returns how a request ends with this error: a fault is its answer.
+fn end_by_error(error: RequestError) -> Result<Progress, RequestError>
+    ensures { result ≡ end_by_error error }
+{
+    match error {
+        RequestError::Refused(fault) => Ok(Progress::Done(Answer::Refused(fault))),
+        RequestError::OutOfMemory => Err(RequestError::OutOfMemory),
+    }
+}
+
 impl Session {
     ghost use Rattle.cops_session.specs.Kept.{HasRoomInContext, IsOpen, IsPlaced, IsReadyFor, KeptSession, is_running};
     ghost use Rattle.cops_model.specs.Request.{Write, Fetch, next, values_or_full};
     ghost use Rattle.cops_model.specs.Session.{OpenContext, Running as SoloRunning, Session as SoloSession, context_created, context_deleted, context_extended, context_refusal, create_refusal, get_refusal, moment_at, new_session, obs_of, request_begun, request_of, seen_in, session_put_refusal};
     ghost use Rattle.cops_session.specs.SessionStands.{SessionStandsFor, ContextsStandFor, obs_in};
-    ghost use Rattle.cops_session.specs.Reading.{GetReadsFirst, ReadsFirst, ReadsOn};
-    ghost use Rattle.cops_session.specs.Asking.{IsWantedIn};
-    ghost use Rattle.cops_session.specs.Rounds.{FirstReads};
     ghost use Rattle.cops_session.specs.Stepping.{StepsFrom, TellsNext, runs, told_step};
     ghost use Rattle.cops_session.specs.Writing.{told_answer};
 
@@ -353,7 +362,7 @@ impl Session {
         let reading = Reading {
             restarts: 0,
             start: None,
-            round: Round::First(FirstRound::begin(self.alloc, keys)?),
+            rounds: Rounds::begin(self.alloc, keys)?,
         };
         Ok(self.begin(same, Work::Get(reading)))
     }
@@ -410,26 +419,46 @@ impl Session {
         if !self.runs(handle) {
             return Err(RequestError::Refused(Fault::Idle));
         }
-        if self.reads_first(moment) {
-            if self.has_more() {
-                return self.read_on(nodes, moment);
-            }
-            return self.read_first(nodes, moment);
-        }
-        match self.running.take() {
-            Some(ongoing) => {
-                let Ongoing {
-                    number,
-                    context,
-                    work,
-                } = ongoing;
-                match work {
-                    Work::Put(writing) => self.put(nodes, context, writing, moment),
-                    Work::Get(reading) => self.get(nodes, number, context, reading, moment),
+        match &mut self.running {
+            Some(ongoing) => match &mut ongoing.work {
+                Work::Get(reading) => {
+                    let mut later = self.moment.max(moment);
+                    let outcome = reading.step(nodes, self.setting, &mut later);
+                    self.moment = later;
+                    return match outcome {
+                        Ok(step) => match step {
+                            ReadStep::Working => Ok(Progress::Working),
+                            ReadStep::Restarted => Ok(Progress::Restarted(reading.restarts)),
+                            ReadStep::Complete => {
+                                let reads = reading.rounds.take_reads();
+                                let context = ongoing.context;
+                                end(&mut self.running);
+                                Ok(Progress::Done(self.values(context, reads)?))
+                            }
+                        },
+                        Err(error) => {
+                            end(&mut self.running);
+                            end_by_error(error)
+                        }
+                    };
                 }
-            }
-            None => Err(RequestError::Refused(Fault::Idle)),
+                Work::Put(_) => {}
+            },
+            None => return Err(RequestError::Refused(Fault::Idle)),
         }
+        // A put runs, so neither refusal below is ever the answer.
+        let Some(ongoing) = self.running.take() else {
+            return Err(RequestError::Refused(Fault::Idle));
+        };
+        let Ongoing {
+            number: _,
+            context,
+            work,
+        } = ongoing;
+        let Work::Put(writing) = work else {
+            return Err(RequestError::Refused(Fault::Idle));
+        };
+        self.put(nodes, context, writing, moment)
     }
 
     /// Returns `true` if the request of this number runs.
@@ -440,205 +469,6 @@ impl Session {
             Some(ongoing) => ongoing.number == handle.number(),
             None => false,
         }
-    }
-
-    /// Returns `true` if the step at this timestamp is a read of a first round, in time.
-    fn reads_first(&self, moment: u64) -> bool
-        ensures reads { IsTrue result →
-            ReadsFirst self.now.setting.trans_time (max self.now.moment moment) self.now.running }
-        ensures other { result ≡ false →
-            ReadsFirst self.now.setting.trans_time (max self.now.moment moment) self.now.running →
-            ⊥ }
-    {
-        match &self.running {
-            Some(ongoing) => match &ongoing.work {
-                Work::Get(reading) => {
-                    reading.reads_first(self.moment.max(moment), self.setting.trans_time)
-                }
-                Work::Put(_) => false,
-            },
-            None => false,
-        }
-    }
-
-    /// Returns `true` if another read of the first round follows the next one.
-    fn has_more(&self) -> bool
-        ensures more { (trans_time moment : ℕ) → IsTrue result →
-            ReadsFirst trans_time moment self.now.running →
-            ReadsOn trans_time moment self.now.running }
-        ensures last { (trans_time moment : ℕ) → result ≡ false →
-            ReadsOn trans_time moment self.now.running → ⊥ }
-    {
-        match &self.running {
-            Some(ongoing) => match &ongoing.work {
-                Work::Get(reading) => reading.has_more(),
-                Work::Put(_) => false,
-            },
-            None => false,
-        }
-    }
-
-    /// Takes a step that is a read of a first round, in time, and that another read follows. The
-    /// transaction changes in place: it is large, and most steps of transactions are of this kind.
-    /// The answer is that of `step`, which passes it on in place.
-    fn read_on<N: Nodes>(&mut self, nodes: &mut N, moment: u64) -> Result<Progress, RequestError>
-        requires data_centres { self.old.setting.data_centres ≡ (N.shape nodes.old).data_centres }
-        requires shards { self.old.setting.shards ≡ (N.shape nodes.old).shards }
-        requires reads_on { ReadsOn self.old.setting.trans_time
-            (max self.old.moment moment) self.old.running }
-        ensures stepped { StepsFrom (λ id at call reply.
-            N.Answers nodes.old id self.old.setting.slot at call reply nodes.new)
-            (nodes.new ≡ nodes.old)
-            self.old moment result self.new }
-        ensures taken { OnRefusal result ⊥ }
-        ensures lack { OnOutOfMemory result
-            (self.new ≡ record self.old { moment = self.new.moment; running = None }) }
-        ensures once { (id : NodeId) × (at : ℕ) × (call : NodeCall) × (reply : NodeReply)
-            × N.Answers nodes.old id self.old.setting.slot at call reply nodes.new }
-        ensures shape { N.shape nodes.new ≡ N.shape nodes.old }
-        ensures setting { self.new.setting ≡ self.old.setting }
-    {
-        let now = self.moment.max(moment);
-        self.moment = now;
-        match &mut self.running {
-            Some(ongoing) => match &mut ongoing.work {
-                Work::Get(reading) => {
-                    match read_next(nodes, self.setting, reading, now) {
-                        Ok(()) => Ok(Progress::Working),
-                        Err(error) => {
-                            self.end();
-                            match error {
-                                RequestError::Refused(fault) => {
-                                    Ok(Progress::Done(Answer::Refused(fault)))
-                                }
-                                RequestError::OutOfMemory => Err(RequestError::OutOfMemory),
-                            }
-                        }
-                    }
-                }
-                Work::Put(_) => unreachable!(),
-            },
-            None => unreachable!(),
-        }
-    }
-
-    /// Takes a step that is a read of a first round, in time. The transaction stays in place during
-    /// the call; only its lists are taken out then, and most steps of this kind end it. The answer
-    /// is that of `step`.
-    fn read_first<N: Nodes>(&mut self, nodes: &mut N, moment: u64) -> Result<Progress, RequestError>
-        requires data_centres { self.old.setting.data_centres ≡ (N.shape nodes.old).data_centres }
-        requires shards { self.old.setting.shards ≡ (N.shape nodes.old).shards }
-        requires reads_first { ReadsFirst self.old.setting.trans_time
-            (max self.old.moment moment) self.old.running }
-        ensures stepped { StepsFrom (λ id at call reply.
-            N.Answers nodes.old id self.old.setting.slot at call reply nodes.new)
-            (nodes.new ≡ nodes.old)
-            self.old moment result self.new }
-        ensures taken { OnRefusal result ⊥ }
-        ensures lack { OnOutOfMemory result
-            (self.new ≡ record self.old { moment = self.new.moment; running = None }) }
-        ensures once { (id : NodeId) × (at : ℕ) × (call : NodeCall) × (reply : NodeReply)
-            × N.Answers nodes.old id self.old.setting.slot at call reply nodes.new }
-        ensures shape { N.shape nodes.new ≡ N.shape nodes.old }
-        ensures setting { self.new.setting ≡ self.old.setting }
-    {
-        let now = self.moment.max(moment);
-        let answered = self.ask_latest(nodes, now);
-        self.moment = now;
-        let Some(ongoing) = self.running.take() else {
-            unreachable!()
-        };
-        let Ongoing {
-            number,
-            context,
-            work,
-        } = ongoing;
-        let Work::Get(reading) = work else {
-            unreachable!()
-        };
-        let Reading {
-            restarts,
-            start,
-            round,
-        } = reading;
-        let Round::First(round) = round else {
-            unreachable!()
-        };
-        match accept_latest(round, answered) {
-            Ok(FirstAnswer::Went(AfterFirst::More(round))) => {
-                let started = start.unwrap_or(now);
-                self.go_on(number, context, restarts, started, Round::First(round));
-                Ok(Progress::Working)
-            }
-            Ok(FirstAnswer::Went(AfterFirst::Second(round))) => {
-                let started = start.unwrap_or(now);
-                self.go_on(number, context, restarts, started, Round::Second(round));
-                Ok(Progress::Working)
-            }
-            Ok(FirstAnswer::Went(AfterFirst::Complete(reads))) => {
-                Ok(Progress::Done(self.values(context, reads)?))
-            }
-            Ok(FirstAnswer::Failed(fault)) => Ok(Progress::Done(Answer::Refused(fault))),
-            Err(error) => Err(RequestError::from(error)),
-        }
-    }
-
-    /// Requests the next key of the first round. Fails with `AllocError` if the node runs out of
-    /// memory.
-    #[inline(always)]
-    fn ask_latest<N: Nodes>(&self, nodes: &mut N, moment: u64) -> Result<NodeReply, AllocError>
-        requires data_centres { self.now.setting.data_centres ≡ (N.shape nodes.old).data_centres }
-        requires shards { self.now.setting.shards ≡ (N.shape nodes.old).shards }
-        requires reads_first { ReadsFirst self.now.setting.trans_time moment self.now.running }
-        ensures called { (key : List ℕ)
-            × N.Answers nodes.old
-            (record { dc = self.now.setting.dc; shard = shard_of key self.now.setting.shards })
-            self.now.setting.slot moment (Get key Latest) (told_reply result) nodes.new
-            × ((number context restarts : ℕ) (start : Option ℕ) (round : FirstReads) →
-            self.now.running ≡ Some (record { number = number; context = context; work = work.Get (record { restarts = restarts; start = start; round = First round }) }) → IsWantedIn round key) }
-        ensures shape { N.shape nodes.new ≡ N.shape nodes.old }
-    {
-        match &self.running {
-            Some(ongoing) => match &ongoing.work {
-                Work::Get(reading) => match &reading.round {
-                    Round::First(round) => ask_latest(nodes, round, self.setting, moment),
-                    Round::Second(_) => unreachable!(),
-                },
-                Work::Put(_) => unreachable!(),
-            },
-            None => unreachable!(),
-        }
-    }
-
-    /// Runs a transaction on from a round of an attempt that has started.
-    fn go_on(
-        &mut self,
-        number: u64,
-        context: Handle<Contexts>,
-        restarts: u64,
-        started: u64,
-        round: Round,
-    )
-        requires ready { IsOpen context self.old.contexts.rows }
-        ensures { self.new ≡ record self.old { running = Some (record { number = number; context = context; work = work.Get (record { restarts = restarts; start = Some started; round = round }) }) } }
-    {
-        let reading = Reading {
-            restarts,
-            start: Some(started),
-            round,
-        };
-        self.running = Some(Ongoing {
-            number,
-            context,
-            work: Work::Get(reading),
-        });
-    }
-
-    /// Ends the running request.
-    fn end(&mut self)
-        ensures { self.new ≡ record self.old { running = None } }
-    {
-        self.running = None;
     }
 
     /// Takes the one step of a put, which ends it. The answer is that of `step`.
@@ -673,71 +503,7 @@ impl Session {
                 see_put(&mut self.contexts, context, pair);
                 Ok(Progress::Done(Answer::Stored(stored)))
             }
-            Err(RequestError::Refused(fault)) => Ok(Progress::Done(Answer::Refused(fault))),
-            Err(RequestError::OutOfMemory) => Err(RequestError::OutOfMemory),
-        }
-    }
-
-    /// Takes a step of a get transaction that is no read of its first round. The answer is that of
-    /// `step`.
-    #[inline(never)]
-    fn get<N: Nodes>(
-        &mut self,
-        nodes: &mut N,
-        number: u64,
-        context: Handle<Contexts>,
-        reading: Reading,
-        moment: u64,
-    ) -> Result<Progress, RequestError>
-        requires data_centres { self.old.setting.data_centres ≡ (N.shape nodes.old).data_centres }
-        requires shards { self.old.setting.shards ≡ (N.shape nodes.old).shards }
-        requires idle { self.old.running ≡ None }
-        requires other { GetReadsFirst self.old.setting.trans_time
-            (max self.old.moment moment) reading → ⊥ }
-        requires ready { IsOpen context self.old.contexts.rows }
-        ensures stepped { StepsFrom (λ id at call reply.
-            N.Answers nodes.old id self.old.setting.slot at call reply nodes.new)
-            (nodes.new ≡ nodes.old)
-            (record self.old { running = Some (record { number = number; context = context; work = work.Get reading }) }) moment result self.new }
-        ensures taken { OnRefusal result ⊥ }
-        ensures lack { OnOutOfMemory result
-            (self.new ≡ record self.old { moment = self.new.moment; running = None }) }
-        ensures once { (nodes.new ≡ nodes.old)
-            ⊎ ((id : NodeId) × (at : ℕ) × (call : NodeCall) × (reply : NodeReply)
-            × N.Answers nodes.old id self.old.setting.slot at call reply nodes.new) }
-        ensures shape { N.shape nodes.new ≡ N.shape nodes.old }
-        ensures setting { self.new.setting ≡ self.old.setting }
-    {
-        let now = self.moment.max(moment);
-        match read_step(nodes, self.setting, reading, now) {
-            Ok(ReadStep { moment, came }) => {
-                self.moment = moment;
-                match came {
-                    Came::Working(reading) => {
-                        self.running = Some(Ongoing {
-                            number,
-                            context,
-                            work: Work::Get(reading),
-                        });
-                        Ok(Progress::Working)
-                    }
-                    Came::Restarted(reading) => {
-                        let times = reading.restarts;
-                        self.running = Some(Ongoing {
-                            number,
-                            context,
-                            work: Work::Get(reading),
-                        });
-                        Ok(Progress::Restarted(times))
-                    }
-                    Came::Complete(reads) => Ok(Progress::Done(self.values(context, reads)?)),
-                    Came::Failed(fault) => Ok(Progress::Done(Answer::Refused(fault))),
-                }
-            }
-            Err(error) => {
-                self.moment = now;
-                Err(RequestError::from(error))
-            }
+            Err(error) => end_by_error(error),
         }
     }
 

@@ -1,5 +1,5 @@
 -- Steps of a session that is kept are steps of each session of the definition that it stands for.
-use Rattle.std.proofs.Common.{◌≡◌, ℕ, ◌+◌, ◌*◌, ◌-◌, ◌^◌, ◌≤◌, Bool, true, false, cond, List, [], ◌∷◌, ◌++◌, length, filter, zero, suc, refl, sym, ap, subst, ◌∙◌, arith, length-append, length-drop}
+use Rattle.std.proofs.Common.{◌≡◌, ℕ, ◌+◌, ◌*◌, ◌-◌, ◌^◌, ◌≤◌, Bool, true, false, cond, List, [], ◌∷◌, ◌++◌, length, filter, zero, suc, refl, sym, ap, subst, ◌∙◌, arith, length-append, length-drop, inl, inr}
 use Rattle.std.specs.Prelude.{Option, Some, None, Result, Ok, Err, MatchResult, ◌==◌}
 use Rattle.std.specs.Option.{option_map}
 use Rattle.std.specs.declared.alloc.AllocError.{AllocError}
@@ -17,14 +17,13 @@ use Rattle.cops_model.specs.declared.requests.Answer.{Answer}
 use Rattle.cops_model.specs.declared.requests.Progress.{Progress}
 use Rattle.cops_model.specs.declared.requests.Progress.TheVariants.{Working, Restarted, Done}
 use Rattle.cops_session.specs.declared.ongoing.Ongoing.{Ongoing}
-use Rattle.cops_session.specs.declared.ongoing.Round.{Round}
-use Rattle.cops_session.specs.declared.ongoing.Round.TheVariants.{First, Second}
 use Rattle.cops_session.specs.declared.ongoing.Work.{Work}
 use Rattle.cops_session.specs.declared.ongoing.Work.TheVariants.{Put, Get}
 use Rattle.cops_session.specs.Kept.{KeptSession}
-use Rattle.cops_session.specs.Reading.{IsReading, RoundStandsFor}
+use Rattle.cops_session.specs.Reading.{IsReading}
 use Rattle.cops_model.specs.Request.{Action, Fetch, Attempt, attempt_after, attempt_of, begins_again, next}
-use Rattle.cops_session.specs.Rounds.{wishes_of}
+use Rattle.cops_session.specs.Rounds.{SecondReads, wishes_of}
+use Rattle.cops_session.specs.Stands.{RoundsStandFor}
 use Rattle.cops_model.specs.Session.{Running, Session, moment_at, request_of, session_after}
 use Rattle.cops_session.specs.SessionStands.{RunningStandsFor, SessionStandsFor, WorkStandsFor}
 use Rattle.cops_session.specs.Stepping as stepping
@@ -132,9 +131,9 @@ wishes-few keys rs =
     let few = reads-shorter keys rs in
     omega arith
 
-replies-few : (keys : List (List ℕ)) (rs : List NodeReply) (round : Round) → length keys ≤ 32 → RoundStandsFor keys rs round → length rs ≤ 64
-replies-few keys rs (First round) few is = let more = is.unfinished in omega arith
-replies-few keys rs (Second round) few is =
+replies-few : (keys : List (List ℕ)) (rs : List NodeReply) (rounds : SecondReads) → length keys ≤ 32 → RoundsStandFor keys rs rounds → length rs ≤ 64
+replies-few keys rs rounds few (inl is) = let more = is.stands.unfinished in omega arith
+replies-few keys rs rounds few (inr is) =
     let left = ap length is.left_is in
     let dropped = length-drop (length rs - length keys) (wishes_of (reads_of keys rs)) in
     let most = wishes-few keys rs in
@@ -156,7 +155,7 @@ module _ (config : TenantConfig) where
       reads_within : (keys : List (List ℕ)) → length keys ≤ 32 → IsReading config (request_of session running) keys running.log reading → IsWithin config (Fetch keys) running.log
       reads_within keys few is =
           let replied = is.all_replied in
-          let most = replies-few keys (replies_of (attempt_of (Fetch keys) running.log).steps) reading.round few is.round_is in
+          let most = replies-few keys (replies_of (attempt_of (Fetch keys) running.log).steps) reading.rounds few is.rounds_are in
           record { restarts = (let within = is.few_restarts in grind (arith, nat_tests)); steps = omega arith }
 
   pub is_within : (kept : KeptSession) (session : Session) (running : Running) → SessionStandsFor config kept session → session.running ≡ Some running → HasFewKeys running.action → IsWithin config running.action running.log

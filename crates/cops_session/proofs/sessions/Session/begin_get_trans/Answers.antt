@@ -1,4 +1,4 @@
-use Rattle.std.proofs.Common.{◌≡◌, ◌∙◌, true, false, length, ap, sym, refl, subst, arith}
+use Rattle.std.proofs.Common.{◌≡◌, ◌∙◌, ◌<◌, true, false, length, ap, sym, refl, subst, arith}
 use Rattle.std.specs.Prelude.{Some, nat_lt}
 use Rattle.std.proofs.lemmas.Bool.Decides.{nat_tests}
 use Rattle.cops_handles.specs.Rows.{row_at}
@@ -6,6 +6,7 @@ use Rattle.cops_session.specs.Kept.{KeptSession}
 use Rattle.cops_session.specs.SessionStands.{SessionStandsFor}
 use Rattle.std.proofs.lemmas.Result.{err_from_is_err_and}
 use Rattle.cops_session.proofs.RepeatLaws.{AreDistinct-no_repeats}
+use Rattle.cops_session.proofs.RoundsStand.{begun_unfinished}
 use Rattle.cops_session.proofs.SessionLaws.{answered_by, get_refusal-closed, get_refusal-open, SessionStandsFor-get_begun}
 use Rattle.cops_model.specs.Session.{has_repeats, is_spent}
 use Rattle.cops_session.proofs.sessions.Session.begin_get_trans.Goals as goal
@@ -47,12 +48,15 @@ returns-then-self-clause-told c = λ config session stand.
 pub begin-requires-2-clause-ready : goal.begin-requires-2-clause-ready
 begin-requires-2-clause-ready c =
     let row = answered_by _ c.get.result c.get.ensures c.in_default.not-Err in
-    (row.0.now, ap (λ (k : KeptSession). row_at c.args.handle k.contexts.rows) (sym c.self.view_is) ∙ row.1)
+    let some : 0 < length c.args.keys.now = let h = c.is_empty.ensures in let e = c.if-is_empty.false in grind (arith, nat_tests) in (
+      (row.0.now, ap (λ (k : KeptSession). row_at c.args.handle k.contexts.rows) (sym c.self.view_is) ∙ row.1),
+      begun_unfinished c.args.keys.now c.in_ok-begin.field-0 some c.in_ok-begin.ensures,
+    )
 
 pub returns-clause-begun : goal.returns-clause-begun
 returns-clause-begun c = λ config session stand. (
   c.begin-2.ensures.number ∙ stand.next_request_is,
-  SessionStandsFor-get_begun config _ session stand c.args.handle _ c.args.keys.now c.in_ok-begin.field-0 (AreDistinct-no_repeats c.args.keys.now (sym c.has_repeats.ensures ∙ c.if-has_repeats.false)) c.in_ok-begin.ensures c.begin-2.ensures.begun,
+  SessionStandsFor-get_begun config _ session stand c.args.handle _ c.args.keys.now c.in_ok-begin.field-0 (AreDistinct-no_repeats c.args.keys.now (sym c.has_repeats.ensures ∙ c.if-has_repeats.false)) (let h = c.is_empty.ensures in let e = c.if-is_empty.false in grind (arith, nat_tests)) c.in_ok-begin.ensures c.begin-2.ensures.begun,
 )
 
 pub returns-clause-told : goal.returns-clause-told
