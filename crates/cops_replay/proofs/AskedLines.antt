@@ -1,24 +1,23 @@
 -- What a record line says before the reply, and the text of the reply.
-use Rattle.std.proofs.Common.{◌≡◌, ℕ, Bool, true, false, List, [], ◌∷◌, ◌++◌, refl, sym, subst, ap, ◌∙◌, append-nil, arith}
+use Rattle.std.proofs.Common.{◌≡◌, ℕ, Bool, false, List, [], ◌∷◌, refl, sym, subst, ap, ◌∙◌, arith}
 use Rattle.std.specs.Prelude.{IsTrue, ◌↔◌, Option, Some, None}
 use Rattle.std.specs.List.{AllByRecursion, join_with_byte}
 use Rattle.std.specs.Option.{option_map}
 use Rattle.std.specs.Str.{bytes_eq}
+use Rattle.std.proofs.lemmas.Bool.Decides.{nat_tests}
 use Rattle.cops_types.specs.TenantConfig.{TenantConfig}
 use Rattle.cops_types.specs.Words.{parts_at, space, spaced}
 use Rattle.cops_types.proofs.WordLemmas.{Lacks, bytes_from_test, parts_back, parts_joined, same_bytes, same_value}
 use Rattle.cops_model.specs.declared.calls.NodeReply.{NodeReply}
-use Rattle.cops_model.specs.declared.calls.NodeReply.TheVariants.{Found, Absent, Gone, NotYet, Stored, Checked, Pulled, Nothing, Committed, Already, OutOfOrder, Acked, NotFront, Removed, Refused}
+use Rattle.cops_model.specs.declared.calls.NodeReply.TheVariants.{Refused}
 use Rattle.cops_model.specs.SoloNode.{SoloNode}
 use Rattle.cops_replay.specs.declared.reading.Asked.{Asked}
 use Rattle.cops_replay.specs.declared.Record.{Record}
-use Rattle.cops_replay.specs.AskedLines.{record_told, reply_told}
-use Rattle.cops_replay.specs.RecordLines.{at_end, read_asked, read_reply, record_with, whole}
+use Rattle.cops_replay.specs.RecordLines.{read_asked, read_reply, record_told, record_with, reply_told, whole}
 use Rattle.cops_replay.specs.RecordText.{has_form, is_reply, reply_words}
 use Rattle.cops_replay.specs.RecordWords.{Read, done_with, then_read, version_in}
 use Rattle.cops_replay.specs.Replaying.{Agrees}
-use Rattle.cops_replay.specs.Replayings.{IsLineReplayed}
-use Rattle.cops_replay.specs.Replays.{IsReplied, Lone}
+use Rattle.cops_replay.specs.Replayings.{IsLineReplayed, IsReplied, Lone}
 use Rattle.cops_replay.proofs.LinesBack.{reply_back}
 use Rattle.cops_replay.proofs.LinesSpelled.{reply_is}
 use Rattle.cops_replay.proofs.WordsLack.{reply_free}
@@ -65,12 +64,7 @@ told_after r =
 -- it is that of the call and of the reply that is read then
 with_reply : (tenant : List ℕ) (asked : Asked) (r : Read NodeReply) →
     option_map (λ (read : List ℕ × Record). read.1) (whole (then_read (λ reply. done_with {A = List ℕ × Record} (tenant, record_with asked reply)) r)) ≡ option_map (record_with asked) (whole r)
-with_reply tenant asked None = refl
-with_reply tenant asked (Some read) = by_end read.1
-  where
-    by_end : (words : List (List ℕ)) → option_map (λ (read : List ℕ × Record). read.1) (at_end {A = List ℕ × Record} (tenant, record_with asked read.0) words) ≡ option_map (record_with asked) (at_end read.0 words)
-    by_end [] = refl
-    by_end (word ∷ words) = refl
+with_reply tenant asked r = grind (arith, nat_tests)
 
 module _ (config : TenantConfig) (line : List ℕ) (words : List (List ℕ)) (solos : List SoloNode) (new : Lone) (are : words ≡ parts_at space line) where
   nothing_told : record_told line ≡ None → IsLineReplayed config line solos false new
@@ -106,8 +100,4 @@ module _ (config : TenantConfig) (line : List ℕ) (words : List (List ℕ)) (so
       line_not_replied none = λ told some agrees. of_text told some agrees (λ reply is agreeing. none reply agreeing)
 
       pub line_replied : (reply : NodeReply) (same : Bool) → IsReplied config asked.1 solos (Some reply) new → (IsTrue same ↔ (reply_told text ≡ Some reply)) → IsLineReplayed config line solos same new
-      line_replied reply true replied is = (record_with asked.1 reply, told_is ∙ ap (option_map (record_with asked.1)) (is.0 refl), replied)
-      line_replied reply false replied is = λ told some agrees. of_text told some agrees (λ found says agreeing.
-          (let one : found ≡ reply = agreeing.same_reply ∙ sym replied.0.same_reply in
-          let wrong : false ≡ true = is.1 (says ∙ ap Some one) in
-          cc))
+      line_replied reply same h2 h3 = grind (arith, nat_tests, of_text, told_is)

@@ -1,8 +1,7 @@
 -- Heads of files of either layout, over lines as they are cut.
-use Rattle.std.proofs.Common.{◌≡◌, ℕ, zero, suc, ◌+◌, ◌<◌, ◌≤◌, ◌^◌, ◌-◌, Bool, true, false, ◌&&◌, nat_eq, cond, min, List, [], ◌∷◌, ◌++◌, length, take, inl, inr, refl, sym, subst, ap, ◌∙◌, length-append, length-take, true≢false, arith}
+use Rattle.std.proofs.Common.{◌≡◌, ℕ, ◌+◌, ◌<◌, ◌≤◌, ◌^◌, Bool, true, false, ◌&&◌, nat_eq, cond, List, [], ◌∷◌, ◌++◌, length, take, refl, sym, subst, ap, ◌∙◌, length-append, length-take, true≢false, arith}
 use Rattle.std.specs.Prelude.{Option, Some, None, nat_lt, IsTrue}
 use Rattle.std.specs.Str.{bytes_eq}
-use Rattle.std.proofs.Math.Nat.{min-eq_left}
 use Rattle.std.proofs.lemmas.Bool.Decides.{nat_tests}
 use Rattle.std.proofs.lemmas.List.{take_all}
 use Rattle.std.specs.List.{AllByRecursion}
@@ -65,19 +64,13 @@ cut_in_head layout front line = by_test (nat_lt (longest_record + 1) (length lin
         by_found (Some next) e = absurd (long (short_by layout front l next e))
 
 old_read_once : (front : Front) (number : ℕ) (line : List ℕ) (lines : List (List ℕ)) (next : Front) → is_begun front ≡ false → old_front_after front line ≡ Some next → old_reading_from (line ∷ lines) number front ≡ old_reading_from lines (number + 1) next
-old_read_once AtStart number line lines next still e = ap (λ f. elim f [ None ↦ BadAt number | Some next ↦ old_reading_from lines (number + 1) next ]) e
-old_read_once (Within config) number line lines next still e = ap (λ f. elim f [ None ↦ BadAt number | Some next ↦ old_reading_from lines (number + 1) next ]) e
-old_read_once (Begun config) number line lines next still e = absurd (true≢false still)
+old_read_once front number line lines next h5 h6 = grind (arith, nat_tests)
 
 old_bad_first : (front : Front) (number : ℕ) (line : List ℕ) (lines : List (List ℕ)) → is_begun front ≡ false → old_front_after front line ≡ None → old_reading_from (line ∷ lines) number front ≡ BadAt number
-old_bad_first AtStart number line lines still e = ap (λ f. elim f [ None ↦ BadAt number | Some next ↦ old_reading_from lines (number + 1) next ]) e
-old_bad_first (Within config) number line lines still e = ap (λ f. elim f [ None ↦ BadAt number | Some next ↦ old_reading_from lines (number + 1) next ]) e
-old_bad_first (Begun config) number line lines still e = absurd (true≢false still)
+old_bad_first front number line lines h4 h5 = grind (arith, nat_tests)
 
 old_bad_end : (front : Front) (number : ℕ) → is_begun front ≡ false → old_reading_from [] number front ≡ BadAt number
-old_bad_end AtStart number still = refl
-old_bad_end (Within config) number still = refl
-old_bad_end (Begun config) number still = absurd (true≢false still)
+old_bad_end front number h2 = grind (arith, nat_tests)
 
 pub read_once : (layout : Layout) (front : Front) (number : ℕ) (line : List ℕ) (lines : List (List ℕ)) (next : Front) → is_begun front ≡ false → front_by layout front line ≡ Some next → reading_by layout (line ∷ lines) number front ≡ reading_by layout lines (number + 1) next
 read_once Today front number line lines next still e = today.read_once front number line lines next still e
@@ -113,11 +106,7 @@ follows_by Early front line next e = old_front_after-is front line next e
 -- what holds of each front to which a line leads holds behind a whole head; what holds of all lines holds of those after it
 module _ (layout : Layout) (Q : Front → Type 0) (P : List ℕ → Type 0) (step : (front : Front) (line : List ℕ) (next : Front) → Q front → front_by layout front line ≡ Some next → Q next) (config : Config) (rest : List (List ℕ)) where
   begun_holds : (found : Config) (lines : List (List ℕ)) (number : ℕ) → Q (Begun found) → AllByRecursion P lines → reading_by layout lines number (Begun found) ≡ Whole config rest → Q (Begun config) × AllByRecursion P rest
-  begun_holds found lines number q all e =
-      let whole : Whole found lines ≡ Whole config rest = sym (read_whole layout lines number found) ∙ e in
-      let its : found ≡ config = cc in
-      let after : lines ≡ rest = cc in
-      (subst (λ (c : Config). Q (Begun c)) its q, subst (AllByRecursion P) after all)
+  begun_holds found lines number q all e = grind (arith, nat_tests)
 
   no_end : (number : ℕ) (front : Front) → is_begun front ≡ false → reading_by layout [] number front ≡ Whole config rest → Q (Begun config) × AllByRecursion P rest
   no_end number front still e = let bad : BadAt number ≡ Whole config rest = sym (bad_end layout front number still) ∙ e in absurd (let clash : ⊥ = cc in clash)
@@ -145,10 +134,7 @@ Grows (Within old) (Begun config) = config.tenants ≡ old.tenants
 Grows front next = ⊥
 
 grows : (last : ℕ) → last < 2 ^ 64 → (front : Front) (line : List ℕ) (next : Front) → FollowsTo last front line next → Grows front next
-grows last small AtStart line next f = subst (Grows AtStart) (sym f.2) f.1.bare
-grows last small (Within old) line next (inl joins) = subst (Grows (Within old)) (sym joins.after) (joins.tenant, refl, (tenant_fits last small joins.tenant joins.said.within).name, joins.may)
-grows last small (Within old) line next (inr ends) = subst (Grows (Within old)) (sym ends.after) refl
-grows last small (Begun old) line next f = absurd f
+grows last front line next h4 h5 = grind (arith, nat_tests, tenant_fits)
 
 pub grows_by : (layout : Layout) (front : Front) (line : List ℕ) (next : Front) → front_by layout front line ≡ Some next → Grows front next
 grows_by layout front line next e = grows (last_in layout) (last_small layout) front line next (follows_by layout front line next e)
@@ -159,17 +145,8 @@ pub record IsCounted (layout : Layout) (front : Front) (count : ℕ) : Type 0 wh
   pub small : today.IsSmall front
   pub named : AreNamed (today.tenants_in front)
 
-before_few : (layout : Layout) → lines_before layout ≤ 1
-before_few Today = omega arith
-before_few Early = omega arith
-
-min_is : (n : ℕ) → n ≤ 2 ^ 64 - 1 → min n (2 ^ 64 - 1) ≡ n
-min_is n small = min-eq_left small
-
 pub counted-small : (layout : Layout) (front : Front) (count : ℕ) → IsCounted layout front count → counted count ≡ count + 1
-counted-small layout AtStart count c = min_is (count + 1) (let n = c.counts in let few = before_few layout in omega arith)
-counted-small layout (Within config) count c = min_is (count + 1) (let n = c.counts in let small = c.small in let few = before_few layout in omega arith)
-counted-small layout (Begun config) count c = min_is (count + 1) (let n = c.counts in let small = c.small in let few = before_few layout in omega arith)
+counted-small layout front count h3 = grind (arith, nat_tests)
 
 pub counted_next : (layout : Layout) (front : Front) (count : ℕ) (config : Config) → IsCounted layout front count → Grows front (Within config) → IsCounted layout (Within config) (counted count)
 counted_next layout AtStart count config c none = record {
@@ -188,9 +165,7 @@ counted_next layout (Within old) count config c (tenant, more, name, may) =
 counted_next layout (Begun old) count config c g = absurd g
 
 pub named_begun : (layout : Layout) (front : Front) (count : ℕ) (config : Config) → IsCounted layout front count → Grows front (Begun config) → AreNamed config.tenants
-named_begun layout AtStart count config c g = absurd g
-named_begun layout (Within old) count config c same = subst AreNamed (sym same) c.named
-named_begun layout (Begun old) count config c g = absurd g
+named_begun layout front count config h4 h5 = grind (arith, nat_tests)
 
 pub start : (layout : Layout) → IsCounted layout AtStart (lines_before layout)
 start layout = record { counts = omega arith; small = tt; named = tt }

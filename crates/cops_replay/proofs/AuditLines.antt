@@ -1,5 +1,5 @@
 -- The lines of a written audit, and those of them that are one tenant's.
-use Rattle.std.proofs.Common.{◌≡◌, ℕ, zero, suc, ◌+◌, ◌<◌, ◌≤◌, Bool, true, false, cond, List, [], ◌∷◌, ◌++◌, map, length, inl, inr, refl, sym, subst, ap, ◌∙◌, append-nil, arith}
+use Rattle.std.proofs.Common.{◌≡◌, ℕ, zero, suc, ◌+◌, ◌<◌, true, false, cond, List, [], ◌∷◌, ◌++◌, map, length, refl, sym, subst, ap, ◌∙◌, append-nil, arith}
 use Rattle.std.specs.Prelude.{IsTrue, Some, None, codes, decimal, flat_map, nat_lt, slice_get}
 use Rattle.std.specs.List.{AllByRecursion, position_or_len, list_any}
 use Rattle.std.specs.Str.{bytes_eq}
@@ -17,14 +17,14 @@ use Rattle.cops_types.specs.TenantConfig.{TenantConfig}
 use Rattle.cops_types.specs.Words.{first_word, newline, space, spaced}
 use Rattle.cops_types.proofs.HeadLengths.{name_of_good}
 use Rattle.cops_types.proofs.OpenSlotLemmas.{left_fails, right_fails, swapped}
-use Rattle.cops_types.proofs.WordLemmas.{Lacks, both, first_word-more, name_lacks, same_bytes, same_value, space_foreign}
+use Rattle.cops_types.proofs.WordLemmas.{Lacks, first_word-more, name_lacks, same_bytes, same_value, space_foreign}
 use Rattle.cops_types.proofs.Elements.{Every-append}
 use Rattle.cops_types.specs.TenantTexts.{AreApart, has_text}
 use Rattle.cops_types.specs.Version.{last_clock}
 use Rattle.cops_model.specs.SoloNode.{SoloNode}
 use Rattle.cops_replay.specs.declared.Record.{Record}
 use Rattle.cops_replay.specs.AuditText.{ended, tenants_text}
-use Rattle.cops_replay.specs.OwnLines.{alone_lines}
+use Rattle.cops_replay.specs.ReplayText.{alone_lines}
 use Rattle.cops_replay.specs.RecordText.{call_words, is_record, node_text, record_line, reply_words}
 use Rattle.cops_replay.specs.WrittenAudits.{AreFormed, his_records}
 use Rattle.cops_replay.proofs.HeadsBack.{AreFit, lines_of-lines, of_head}

@@ -6,7 +6,7 @@ use Rattle.std.specs.Io.KnownBytes.{Appends}
 use Rattle.std.proofs.lemmas.Result.{IfErr-weaker}
 use Rattle.cops_types.specs.declared.configs.Tenant.{Tenant}
 use Rattle.cops_script.specs.declared.line_runs.fault.RunFault.{RunFault}
-use Rattle.cops_script.specs.declared.line_runs.fault.RunFault.TheVariants.{Refused, OutOfMemory, ReadFault, WriteFault}
+use Rattle.cops_script.specs.declared.line_runs.fault.RunFault.TheVariants.{Refused, ReadFault}
 use Rattle.cops_types.specs.Head.{head_of}
 use Rattle.cops_script.specs.LineRuns.{IfRunRefused}
 use Rattle.cops_types.specs.Lines.{lines_of}
@@ -22,9 +22,8 @@ use Rattle.cops_script.specs.ScriptRuns.{text_in}
 use Rattle.cops_script.specs.ScriptWorlds.{IsLeftBy, IsLeftByRead, cluster_left, life_left}
 use Rattle.cops_world.specs.Worlds.{HasOpenCluster, KeptWorld, open_setup}
 use Rattle.cops_replay.specs.declared.Record.{Record}
-use Rattle.cops_replay.specs.Audits.{HasShape, ReplaysSame, records_of}
 use Rattle.cops_replay.specs.AuditRuns.{HasItsTenants, IsOfWriting, ReplaysSameFor, WritesAudit, WritesAuditFront, audit_after, audit_out, open_config, open_nodes}
-use Rattle.cops_replay.specs.AuditText.{audit_text}
+use Rattle.cops_replay.specs.AuditText.{HasShape, ReplaysSame, audit_text, records_of}
 use Rattle.cops_replay.specs.OpenAudits.{at_slots, left_config, left_nodes, open_slots, open_tenants, with_tenants}
 use Rattle.cops_replay.specs.RecordText.{is_record}
 use Rattle.cops_replay.specs.WrittenAudits.{AreFormed, AreFormedFor, SaysSameFor}

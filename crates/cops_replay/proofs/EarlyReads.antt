@@ -1,5 +1,5 @@
 -- What layout 1 reads of a line, if no clock is too great: other layouts read the same, and the clocks that a node stores have a next one in layout 2.
-use Rattle.std.proofs.Common.{◌≡◌, ℕ, ◌≤◌, Bool, true, false, ◌&&◌, List, length, refl, ap, arith}
+use Rattle.std.proofs.Common.{◌≡◌, ℕ, ◌≤◌, Bool, true, false, ◌&&◌, List, length, refl, arith}
 use Rattle.std.specs.Prelude.{Option, Some, None, nat_le, nat_lt}
 use Rattle.std.specs.Option.{option_and_then}
 use Rattle.std.proofs.lemmas.Bool.Decides.{nat_tests}
@@ -8,7 +8,6 @@ use Rattle.cops_types.specs.OldHead.{last_old_clock}
 use Rattle.cops_types.specs.PairForms.{is_version}
 use Rattle.cops_types.specs.Version.{Timestamp}
 use Rattle.cops_types.specs.Words.{parts_at, version_text}
-use Rattle.cops_types.proofs.WordLemmas.{both}
 use Rattle.cops_model.specs.declared.calls.NodeCall.{NodeCall}
 use Rattle.cops_model.specs.declared.calls.NodeReply.{NodeReply}
 use Rattle.cops_replay.specs.declared.Record.{Record}
@@ -19,7 +18,7 @@ use Rattle.cops_replay.specs.RecordText.{IsRecordLine}
 use Rattle.cops_replay.specs.RecordWords.{kept_if, numbers_of, version_in}
 use Rattle.cops_replay.specs.ReplayText.{longest_record, told_of}
 use Rattle.cops_replay.specs.VersionLayouts.{layout_1, version_under}
-use Rattle.cops_replay.proofs.LinesSpelled.{Alike, Any, OfCall, OfRecord, OfReply, Said, alike_also, alike_if, alike_map, read_alike, records}
+use Rattle.cops_replay.proofs.LinesSpelled.{Alike, OfCall, OfRecord, OfReply, Said, alike_if, alike_map, read_alike, records}
 use Rattle.cops_replay.proofs.Spelled.{version_is}
 
 -- ---- clocks
@@ -45,10 +44,7 @@ abbrev pub EarlyTold : Record → Type 0
 EarlyTold told = OfRecord EarlyVersion told
 
 early_clock : (version : Timestamp) → is_early version ≡ true → EarlyVersion version
-early_clock version e =
-    let small = (both (nat_le version.clock last_early_clock) (nat_lt version.node old_nodes) e).0 in
-    let low : version.clock ≤ last_early_clock = grind (arith, nat_tests, small) in
-    low
+early_clock version e = grind (arith, nat_tests)
 
 -- ---- versions of layout 1, if no clock is too great
 
@@ -68,32 +64,16 @@ today word = by_found (version_in word) refl
 
 -- layout 1 has each of these versions
 in_layout_1 : (word : List ℕ) → Alike (Says word) (early_version_of word) (version_under layout_1 word)
-in_layout_1 word = both_alike (early_version_of word) (version_in word) (version_under layout_1 word) (today word) (by_numbers (numbers_of (parts_at 46 word)))
+in_layout_1 word = both_alike (early_version_of word) (version_in word) (version_under layout_1 word) (today word) (λ version. by_numbers (numbers_of (parts_at 46 word)) version)
   where
-    both_alike : (a b c : Option Timestamp) → Alike (Says word) a b → Alike Any a c → Alike (Says word) a c
+    both_alike : (a b c : Option Timestamp) → Alike (Says word) a b → ((version : Timestamp) → a ≡ Some version → c ≡ Some version) → Alike (Says word) a c
     both_alike None b c p q = tt
-    both_alike (Some version) b c p q = (q.0, p.1)
+    both_alike (Some version) b c p q = (q version refl, p.1)
 
-    has : (version : Timestamp) → is_early version ≡ true → nat_le version.clock last_old_clock && nat_lt version.node old_nodes ≡ true
-    has version e =
-        let b = both (nat_le version.clock last_early_clock) (nat_lt version.node old_nodes) e in
-        let low : version.clock ≤ last_early_clock = grind (arith, nat_tests, b) in
-        let fits : nat_le version.clock last_old_clock ≡ true = grind (arith, nat_tests, low) in
-        rw fits (rw b.1 refl)
-
-    by_early : (version : Timestamp) (t : Bool) → is_early version ≡ t → Alike Any (kept_if t version) (kept_if (nat_le version.clock last_old_clock && nat_lt version.node old_nodes) version)
-    by_early version true e = (ap (λ b. kept_if b version) (has version e), tt)
-    by_early version false e = tt
-
-    by_today : (version : Timestamp) (t : Bool) → Alike Any (option_and_then (λ (x : Timestamp). kept_if (is_early x) x) (kept_if t version)) (kept_if (nat_le version.clock last_old_clock && nat_lt version.node old_nodes) version)
-    by_today version true = by_early version (is_early version) refl
-    by_today version false = tt
-
-    by_numbers : (found : Option (ℕ × ℕ)) → Alike Any
-        (option_and_then (λ (x : Timestamp). kept_if (is_early x) x) (option_and_then (λ pair. let version : Timestamp = record { clock = pair.0; node = pair.1 } in kept_if (is_version version) version) found))
-        (option_and_then (λ pair. let version : Timestamp = record { clock = pair.0; node = pair.1 } in kept_if (nat_le version.clock last_old_clock && nat_lt version.node old_nodes) version) found)
-    by_numbers None = tt
-    by_numbers (Some pair) = let version : Timestamp = record { clock = pair.0; node = pair.1 } in by_today version (is_version version)
+    by_numbers : (found : Option (ℕ × ℕ)) (version : Timestamp) →
+        option_and_then (λ (x : Timestamp). kept_if (is_early x) x) (option_and_then (λ pair. let v : Timestamp = record { clock = pair.0; node = pair.1 } in kept_if (is_version v) v) found) ≡ Some version →
+        option_and_then (λ pair. let v : Timestamp = record { clock = pair.0; node = pair.1 } in kept_if (nat_le v.clock last_old_clock && nat_lt v.node old_nodes) v) found ≡ Some version
+    by_numbers found version e = grind (arith, nat_tests)
 
 -- ---- records
 

@@ -1,27 +1,23 @@
 -- A file of layout 1 whose clocks are not too great replays as one of today's layout with the same configuration and the same lines.
-use Rattle.std.proofs.Common.{◌≡◌, ℕ, zero, suc, ◌+◌, ◌≤◌, Bool, true, false, ◌&&◌, ◌||◌, cond, List, [], ◌∷◌, inl, inr, length, refl, sym, subst, ap, ◌∙◌, arith}
-use Rattle.std.specs.Prelude.{Option, Some, None, IsTrue, nat_le, nat_lt, slice_get}
+use Rattle.std.proofs.Common.{◌≡◌, ℕ, zero, suc, ◌+◌, ◌≤◌, Bool, true, false, ◌||◌, cond, List, [], ◌∷◌, inl, inr, refl, sym, subst, ap, ◌∙◌, arith}
+use Rattle.std.specs.Prelude.{Some, IsTrue, nat_le, nat_lt, slice_get}
 use Rattle.std.specs.List.{AllByRecursion, list_all, list_any}
-use Rattle.std.specs.Option.{is_none, option_map}
 use Rattle.std.specs.Str.{bytes_eq}
 use Rattle.std.proofs.lemmas.Bool.Decides.{nat_tests}
 use Rattle.cops_types.specs.declared.configs.Config.{Config}
 use Rattle.cops_types.specs.declared.configs.Tenant.{Tenant}
-use Rattle.cops_types.specs.Head.{BadAt, Whole}
+use Rattle.cops_types.specs.Head.{Whole}
 use Rattle.cops_types.specs.TenantConfig.{TenantConfig, tenant_config}
 use Rattle.cops_types.specs.Words.{first_word}
 use Rattle.cops_types.proofs.WordLemmas.{both}
 use Rattle.cops_model.specs.SoloNode.{SoloNode}
-use Rattle.cops_replay.specs.declared.Record.{Record}
 use Rattle.cops_replay.specs.declared.Replayed.{Replayed}
 use Rattle.cops_replay.specs.declared.layouts.Layout.{Layout}
 use Rattle.cops_replay.specs.declared.layouts.Layout.TheVariants.{Today, Early}
 use Rattle.cops_replay.specs.declared.refusals.ReplayRefusal.{ReplayRefusal}
-use Rattle.cops_replay.specs.declared.refusals.ReplayRefusal.TheVariants.{BadConfig, ClockTooGreat, UnknownTenant}
-use Rattle.cops_replay.specs.OldRecords.{is_old_record, last_early_clock, old_record_in}
-use Rattle.cops_replay.specs.OwnLines.{alone_lines}
+use Rattle.cops_replay.specs.OldRecords.{last_early_clock}
 use Rattle.cops_replay.specs.Replaying.{fresh_nodes, nodes_after}
-use Rattle.cops_replay.specs.ReplayText.{FindsBy, IsEarlyLine, IsRefusedBy, IsReplayBy, has_great_clock, head_by, is_great_in, is_too_great_in, longest_record, starts_great_in, told_of}
+use Rattle.cops_replay.specs.ReplayText.{FindsBy, IsEarlyLine, IsRefusedBy, IsReplayBy, alone_lines, has_great_clock, head_by, is_great_in, is_too_great_in, starts_great_in, told_of}
 use Rattle.cops_replay.proofs.EarlyReads.{early_told}
 use Rattle.cops_replay.proofs.EarlySteps.{by_its_rules, by_rules_of_today}
 use Rattle.cops_replay.proofs.WholeMigrations.{same_whole}
@@ -59,15 +55,7 @@ none_great_today [] = refl
 none_great_today (line ∷ lines) = none_great_today lines
 
 not_great_early : (line : List ℕ) → IsEarlyLine line → has_great_clock line ≡ false
-not_great_early line (told, is) = by_size (nat_le (length line) longest_record) is
-  where
-    by_read : (read : Option (List ℕ × Record)) → option_map (λ (read : List ℕ × Record). read.1) read ≡ Some told → is_none read && is_old_record line ≡ false
-    by_read None some = absurd (let clash : None ≡ Some told = some in cc)
-    by_read (Some read) some = refl
-
-    by_size : (t : Bool) → cond t (option_map (λ (read : List ℕ × Record). read.1) (old_record_in line)) None ≡ Some told → t && is_none (old_record_in line) && is_old_record line ≡ false
-    by_size true e = by_read (old_record_in line) e
-    by_size false e = absurd (let clash : None ≡ Some told = e in cc)
+not_great_early line h1 = grind (arith, nat_tests)
 
 none_great_early : (lines : List (List ℕ)) → AllByRecursion IsEarlyLine lines → list_any (is_great_in Early) lines ≡ false
 none_great_early [] all = refl
@@ -101,13 +89,7 @@ module _ (one other : Layout) (name : List ℕ) (lines moved : List (List ℕ)) 
     own : AllByRecursion IsEarlyLine (alone_lines name rest)
 
   known : (found : Config) (rest : List (List ℕ)) → head_by one lines ≡ Whole found rest → Known found rest
-  known found rest at =
-      let whole = same_whole found config rest records (sym at ∙ old) in
-      record {
-        head = new ∙ (λ i. Whole (sym whole.0 i) (sym whole.1 i));
-        low = subst (λ (c : Config). IsTrue (list_all (λ (t : Tenant). nat_le t.first_clock last_early_clock) c.tenants)) (sym whole.0) clocks;
-        own = own_early name rest (subst (AllByRecursion IsEarlyLine) (sym whole.1) early);
-      }
+  known found rest at = grind (arith, nat_tests, own_early, same_whole)
 
   pub replayed_alike : (text : List ℕ) → IsReplayBy one name lines text → IsReplayBy other name moved text
   replayed_alike text p =
@@ -126,9 +108,4 @@ module _ (one other : Layout) (name : List ℕ) (lines moved : List (List ℕ)) 
 
   -- the second refuses what the first does
   pub refused_alike : (refusal : ReplayRefusal) → IsRefusedBy one name lines refusal → IsRefusedBy other name moved refusal
-  refused_alike (BadConfig bad) at = absurd (let clash : BadAt bad.line ≡ Whole config records = sym at ∙ old in let no : ⊥ = cc in no)
-  refused_alike UnknownTenant (found, rest, at, none) = (found, rest, (known found rest at).head, none)
-  refused_alike ClockTooGreat p =
-      let k = known p.audit.config p.audit.records p.audit.head in
-      let starts = starts_early one p.audit.config.tenants p.audit.slot p.audit.tenant k.low p.audit.tenant_is in
-      absurd (let clash : false ≡ true = sym (fits_early one p.audit.tenant (alone_lines name p.audit.records) starts k.own) ∙ p.great in let no : ⊥ = cc in no)
+  refused_alike refusal h1 = grind (arith, nat_tests, fits_early, known, starts_early)

@@ -1,6 +1,6 @@
 -- While no clock is too great for layout 2, the rules of layout 1 compute what today's rules do.
-use Rattle.std.proofs.Common.{◌≡◌, ℕ, zero, suc, ◌+◌, ◌*◌, ◌≤◌, Bool, true, false, ◌||◌, cond, List, [], ◌∷◌, ◌++◌, inl, inr, length, map, get_or, set, refl, sym, subst, ap, ◌∙◌, arith}
-use Rattle.std.specs.Prelude.{Option, Some, None, IsFalse, if◌then◌else◌, max, nat_lt, replicate, slice_index, slice_set}
+use Rattle.std.proofs.Common.{◌≡◌, ℕ, zero, suc, ◌+◌, ◌≤◌, Bool, ◌||◌, cond, List, [], ◌∷◌, inl, inr, length, map, get_or, set, refl, sym, subst, ap, ◌∙◌, arith}
+use Rattle.std.specs.Prelude.{Option, Some, None, IsFalse, if◌then◌else◌, max, nat_lt, replicate}
 use Rattle.std.specs.List.{AllByRecursion, fold}
 use Rattle.std.proofs.lemmas.Bool.Decides.{nat_tests}
 use Rattle.cops_types.specs.declared.faults.Fault.{Fault}
@@ -9,19 +9,18 @@ use Rattle.cops_types.specs.declared.configs.Config.{Config}
 use Rattle.cops_types.specs.declared.configs.Tenant.{Tenant}
 use Rattle.cops_types.specs.declared.pairs.Pair.{Pair}
 use Rattle.cops_types.specs.declared.records.EntryParts.{EntryParts as Entry}
-use Rattle.cops_types.specs.OldHead.{last_old_clock}
 use Rattle.cops_types.specs.Pairs.{greatest_clock}
 use Rattle.cops_types.specs.Records.{Tracked, clock, ever, is_outdated, mark}
 use Rattle.cops_types.specs.TenantConfig.{TenantConfig, tenant_config}
-use Rattle.cops_types.specs.Version.{Timestamp, last_clock, next_version, version_eq}
+use Rattle.cops_types.specs.Version.{Timestamp, next_version, version_eq}
 use Rattle.cops_types.proofs.Elements.{Every-append}
 use Rattle.cops_model.specs.declared.calls.NodeCall.{NodeCall}
-use Rattle.cops_model.specs.declared.calls.NodeCall.TheVariants.{Get, Put, DepCheck, Pull, Commit, Ack, Collect}
+use Rattle.cops_model.specs.declared.calls.NodeCall.TheVariants.{Put, Commit, Ack, Collect}
 use Rattle.cops_model.specs.declared.calls.NodeReply.{NodeReply}
-use Rattle.cops_model.specs.declared.calls.NodeReply.TheVariants.{Acked, Already, Committed, NotFront, OutOfOrder, Refused, Stored}
-use Rattle.cops_model.specs.Place.{Place, node_number, own_number, place_of}
+use Rattle.cops_model.specs.declared.calls.NodeReply.TheVariants.{Already, Committed, OutOfOrder, Refused}
+use Rattle.cops_model.specs.Place.{Place, node_number, place_of}
 use Rattle.cops_model.specs.SoloNode.{SoloNode, front, new_node, queue}
-use Rattle.cops_model.specs.Step.{CallEffect, acknowledge, audited, commit_refusal, effect, entry_of_put, node_put_refusal, node_step, put_with_version, store_unless, unchanged, version_of_put, was_committed}
+use Rattle.cops_model.specs.Step.{CallEffect, acknowledge, audited, commit_refusal, effect, node_step, put_with_version, store_unless, unchanged, version_of_put, was_committed}
 use Rattle.cops_replay.specs.declared.Record.{Record}
 use Rattle.cops_replay.specs.declared.Replayed.{Replayed}
 use Rattle.cops_replay.specs.declared.layouts.Layout.{Layout}
@@ -35,11 +34,7 @@ use Rattle.cops_replay.proofs.EarlyReads.{EarlyCall, EarlyClock, EarlyPair, Earl
 -- ---- the next version
 
 pub next_alike : (clock deps_clock node : ℕ) → EarlyClock clock → EarlyClock deps_clock → next_under layout_1 clock deps_clock node ≡ next_version clock deps_clock node
-next_alike clock deps_clock node a b =
-    let low : max clock deps_clock ≤ last_early_clock = omega (arith, a, b) in
-    let old : nat_lt (max clock deps_clock) last_old_clock ≡ true = grind (arith, nat_tests, low) in
-    let new : nat_lt (max clock deps_clock) last_clock ≡ true = grind (arith, nat_tests, low) in
-    ap (λ t. if t then Some (record { clock = max clock deps_clock + 1; node = node }) else None) (old ∙ sym new)
+next_alike clock deps_clock node a b = grind (arith, nat_tests)
 
 -- ---- one node
 
@@ -69,10 +64,7 @@ deps_early : (pairs : List Pair) → AllByRecursion EarlyPair pairs → EarlyClo
 deps_early pairs all = deps_from 0 pairs (omega arith) all
 
 effect_alike : (place : Place) (call : NodeCall) (solo : SoloNode) → EarlyCall call → EarlyClock place.first_clock → EarlyNode solo → effect_under layout_1 place call solo ≡ effect place call solo
-effect_alike place (Put key value deps near) solo c first all =
-    ap (put_with_version place solo key value deps near)
-    (next_alike (clock place.first_clock solo.recs) (greatest_clock deps) (own_number place) (clock_early place.first_clock solo.recs first all) (deps_early deps c))
-effect_alike place call solo c first all = refl
+effect_alike place call solo h3 h4 h5 = grind (arith, nat_tests, clock_early, deps_early, next_alike)
 
 abbrev raised : ℕ → SoloNode → SoloNode
 raised moment solo = record solo { moment = max solo.moment moment }
@@ -100,24 +92,15 @@ stores_early None reply entry solo all h r = Every-append EarlyTracked solo.recs
 
 put_early : (place : Place) (solo : SoloNode) (key value : List ℕ) (deps near : List Pair) (version : Option Timestamp) → EarlyNode solo → EarlyReply (put_with_version place solo key value deps near version).reply →
     EarlyNode (put_with_version place solo key value deps near version).after
-put_early place solo key value deps near None all r = all
-put_early place solo key value deps near (Some version) all r =
-    stores_early (node_put_refusal place solo key value) (Stored version) (entry_of_put place solo version key value deps near) solo all (λ early. early) r
+put_early place solo key value deps near version h7 h8 = grind (arith, nat_tests, stores_early)
 
 commit_early : (place : Place) (solo : SoloNode) (entry : Entry) (was in_order : Bool) → EarlyNode solo → EarlyClock entry.version.clock →
     EarlyReply (cond was (unchanged Already solo) (cond in_order (store_unless (commit_refusal place solo entry) Committed entry solo) (unchanged (OutOfOrder (mark entry.version.node solo.recs)) solo))).reply →
     EarlyNode (cond was (unchanged Already solo) (cond in_order (store_unless (commit_refusal place solo entry) Committed entry solo) (unchanged (OutOfOrder (mark entry.version.node solo.recs)) solo))).after
-commit_early place solo entry true in_order all early r = all
-commit_early place solo entry false true all early r = stores_early (commit_refusal place solo entry) Committed entry solo all (λ any. early) r
-commit_early place solo entry false false all early r = all
+commit_early place solo entry was in_order h5 h6 h7 = grind (arith, nat_tests, stores_early)
 
 ack_early : (dc : ℕ) (version : Timestamp) (solo : SoloNode) (found : Option Entry) → EarlyNode solo → EarlyNode (acknowledge dc version solo found).after
-ack_early dc version solo None all = all
-ack_early dc version solo (Some entry) all = by_version (version_eq entry.version version)
-  where
-    by_version : (t : Bool) → EarlyNode (cond t (record { reply = Acked; after = record solo { acked = slice_set solo.acked dc (slice_index solo.acked dc + 1) } }) (unchanged NotFront solo)).after
-    by_version true = all
-    by_version false = all
+ack_early dc version solo found h4 = grind (arith, nat_tests)
 
 collect_early : (trans_time now : ℕ) (among recs : List Tracked) → AllByRecursion EarlyTracked recs →
     AllByRecursion EarlyTracked (map (λ (t : Tracked). record t { removed = t.removed || is_outdated trans_time now (ever among) t.record_of }) recs)
@@ -132,12 +115,7 @@ effect_early place Collect solo c all r = collect_early place.trans_time solo.mo
 effect_early place call solo c all r = all
 
 step_early : (place : Place) (moment : ℕ) (call : NodeCall) (solo : SoloNode) → EarlyCall call → EarlyNode solo → EarlyReply (node_step place moment call solo).reply → EarlyNode (node_step place moment call solo).after
-step_early place moment call solo c all = by_room (nat_lt (length solo.trail) place.quota.audit)
-  where
-    by_room : (t : Bool) → EarlyReply (cond t (audited moment call (effect place call (raised moment solo))) (unchanged (Refused AuditFull) solo)).reply →
-        EarlyNode (cond t (audited moment call (effect place call (raised moment solo))) (unchanged (Refused AuditFull) solo)).after
-    by_room true r = effect_early place call (raised moment solo) c all r
-    by_room false r = all
+step_early place moment call solo c all = grind (arith, nat_tests, effect_early)
 
 -- ---- all nodes
 
@@ -209,13 +187,9 @@ first_early tenant h = let low : tenant.first_clock ≤ last_early_clock = grind
 -- what today's rules find, the rules of the file's layout find
 pub by_its_rules : (layout : Layout) (config : Config) (tenant : Tenant) (lines : List (List ℕ)) (found : Replayed) → IsFalse (starts_great_in layout tenant) →
     FindsBy layout Today (tenant_config config tenant) 0 (fresh_nodes (tenant_config config tenant)) lines found → FindsBy layout layout (tenant_config config tenant) 0 (fresh_nodes (tenant_config config tenant)) lines found
-by_its_rules Today config tenant lines found starts finds = finds
-by_its_rules Early config tenant lines found starts finds =
-    by_rules (tenant_config config tenant) (first_early tenant starts) Today Early 0 (fresh_nodes (tenant_config config tenant)) lines found (nodes_new (config.data_centres * config.shards) config.data_centres) finds
+by_its_rules layout config tenant lines found h5 h6 = grind (arith, nat_tests, by_rules, first_early, nodes_new)
 
 -- and what these find, today's rules find
 pub by_rules_of_today : (layout : Layout) (config : Config) (tenant : Tenant) (lines : List (List ℕ)) (found : Replayed) → IsFalse (starts_great_in layout tenant) →
     FindsBy layout layout (tenant_config config tenant) 0 (fresh_nodes (tenant_config config tenant)) lines found → FindsBy layout Today (tenant_config config tenant) 0 (fresh_nodes (tenant_config config tenant)) lines found
-by_rules_of_today Today config tenant lines found starts finds = finds
-by_rules_of_today Early config tenant lines found starts finds =
-    by_rules (tenant_config config tenant) (first_early tenant starts) Early Today 0 (fresh_nodes (tenant_config config tenant)) lines found (nodes_new (config.data_centres * config.shards) config.data_centres) finds
+by_rules_of_today layout config tenant lines found h5 h6 = grind (arith, nat_tests, by_rules, first_early, nodes_new)

@@ -1,11 +1,12 @@
 -- What the extraction of a part comes to over a whole file.
-use Rattle.std.proofs.Common.{◌≡◌, ℕ, ◌≤◌, Bool, true, false, cond, List, [], ◌∷◌, ◌++◌, length, map, inl, inr, refl, sym, subst, ap, ◌∙◌, append_assoc}
+use Rattle.std.proofs.Common.{◌≡◌, ℕ, ◌≤◌, Bool, true, false, cond, List, [], ◌∷◌, ◌++◌, length, map, inl, inr, refl, sym, subst, ap, ◌∙◌, append_assoc, arith}
 use Rattle.std.specs.Prelude.{Option, Some, None, IfSome, flat_map, ⊤}
 use Rattle.std.specs.Str.{bytes_eq}
 use Rattle.std.specs.Io.KnownBytes.{Keeps}
 use Rattle.std.proofs.lemmas.Grind.{flat_map-append}
 use Rattle.std.proofs.lemmas.List.{map-append}
 use Rattle.std.proofs.lemmas.List.Elements.{filter-append}
+use Rattle.std.proofs.lemmas.Bool.Decides.{nat_tests}
 use Rattle.cops_types.specs.Head.{AtStart}
 use Rattle.cops_types.specs.Lines.{lines_of, cut_line}
 use Rattle.cops_types.specs.Words.{first_word}
@@ -23,10 +24,8 @@ use Rattle.cops_replay.specs.declared.refusals.PartRefusal.TheVariants.{BadConfi
 use Rattle.cops_replay.specs.AuditFiles.{IsAtHead, audit_rules}
 use Rattle.cops_replay.specs.AuditText.{ended}
 use Rattle.cops_replay.specs.ExtractionRules.{part_lines, part_rules}
-use Rattle.cops_replay.specs.OwnLines.{alone_lines}
 use Rattle.cops_replay.specs.OwnParts.{IsPartBy, IsPartOf, RefusesPartBy, RefusesPartOf, WritesPart, WritesPartFront, layout_lines, lone_head_lines}
-use Rattle.cops_replay.specs.ReplayParts.{seen_lines}
-use Rattle.cops_replay.specs.ReplayText.{longest_record}
+use Rattle.cops_replay.specs.ReplayText.{alone_lines, longest_record, seen_lines}
 use Rattle.cops_replay.proofs.AuditHeads.{short_in}
 use Rattle.cops_replay.proofs.FileRuns as runs
 use Rattle.cops_replay.proofs.RecordRuns.{same_own}
@@ -45,9 +44,7 @@ module _ (name : List ℕ) where
       whole ∙ (λ i. own i ++ written short lines mid later new run i) ∙ own_seen line lines (bytes_eq (first_word line) name) refl
 
   seen_append : (lines more : List (List ℕ)) → flat_map ended (seen_lines name lines) ++ flat_map ended (seen_lines name more) ≡ flat_map ended (seen_lines name (lines ++ more))
-  seen_append lines more =
-      sym (flat_map-append ended (seen_lines name lines) (seen_lines name more))
-      ∙ ap (flat_map ended) (sym (ap (map (cut_line longest_record)) (filter-append (λ line. bytes_eq (first_word line) name) lines more) ∙ map-append (cut_line longest_record) (alone_lines name lines) (alone_lines name more)))
+  seen_append lines more = grind (arith, nat_tests, filter-append, flat_map-append, map-append)
 
 -- ---- a file
 

@@ -3,6 +3,7 @@ use Rattle.std.proofs.Common.{◌≡◌, ℕ, ◌+◌, ◌<◌, Bool, true, fals
 use Rattle.std.specs.Prelude.{Option, Some, None}
 use Rattle.std.specs.Str.{bytes_eq}
 use Rattle.std.specs.Io.KnownBytes.{Keeps}
+use Rattle.std.proofs.lemmas.Bool.Decides.{nat_tests}
 use Rattle.cops_types.specs.declared.configs.Config.{Config}
 use Rattle.cops_types.specs.Counts.{counted}
 use Rattle.cops_types.specs.Head.{Front, AtStart, Within, Begun, is_begun, Whole, BadAt}
@@ -22,8 +23,7 @@ use Rattle.cops_replay.specs.declared.audit_machine.AuditMachine.{AuditMachine}
 use Rattle.cops_replay.specs.declared.file_heads.FileHead.{FileHead}
 use Rattle.cops_replay.specs.declared.layouts.Layout.{Layout}
 use Rattle.cops_replay.specs.declared.layouts.Layout.TheVariants.{Today, Early}
-use Rattle.cops_replay.specs.AuditBodies.{AuditRules}
-use Rattle.cops_replay.specs.AuditFiles.{GoesOn, IsAtHead, audit_rules, end_answers, end_refuses, head_answers, head_refuses, line_answers, line_refuses, rules_in}
+use Rattle.cops_replay.specs.AuditFiles.{AuditRules, GoesOn, IsAtHead, audit_rules, end_answers, end_refuses, head_answers, head_refuses, line_answers, line_refuses, rules_in}
 use Rattle.cops_replay.specs.AuditText.{layout_line}
 use Rattle.cops_replay.specs.FileHeads.{IsFileHeadAt, count_in, front_by, front_in, front_with_by, layout_in, tells_layout}
 use Rattle.cops_replay.specs.ReplayText.{head_by, layout_of, longest_record}
@@ -68,10 +68,7 @@ module _ {B R F : Type 0} (rules : AuditRules B R F) (body : B) where
 
   answered_in : (head : FileHead) (layout : Layout) (next : Front) (count : ℕ) (line text : List ℕ) (new : AuditFile R) → IsFileHeadAt layout next count head → tells_layout layout count line ≡ false → line_answers rules body (Head head) line text new →
       (after : Front) × (front_by layout next line ≡ Some after) × GoesOn rules body layout count after text new
-  answered_in head layout next count line text new (l, f, k) apart answered =
-      let told : tells_layout (layout_in head) (count_in head) line ≡ false = (λ i. tells_layout (l i) (k i) line) ∙ apart in
-      let h = subst (λ (b : Bool). head_answers rules body b head line text new) told answered in
-      (h.0, sym (λ i. front_with_by (l i) (f i) line) ∙ h.1, subst (λ (x : Layout). GoesOn rules body x count h.0 text new) l (subst (λ (x : ℕ). GoesOn rules body (layout_in head) x h.0 text new) k h.2))
+  answered_in head layout next count line text new after h8 h9 = grind (arith, nat_tests)
 
   module _ (layout : Layout) (front : List (List ℕ)) (next : Front) (count : ℕ) (line : List ℕ) (c : IsCounted layout next count) (still : is_begun next ≡ false)
       (told : (others : List (List ℕ)) → layout_of (front ++ line ∷ others) ≡ layout) (reads : (others : List (List ℕ)) → head_by layout (front ++ others) ≡ reading_by layout others (count + 1) next) where
@@ -324,9 +321,7 @@ module _ {B R F : Type 0} (rules : AuditRules B R F) (IsQuiet : R → Type 0)
   IsQuietFile (Records state) = IsQuiet state
 
   goes_quiet : (b : B) (layout : Layout) (count : ℕ) (next : Front) (text : List ℕ) (new : AuditFile R) → GoesOn rules b layout count next text new → IsQuietFile new → text ≡ []
-  goes_quiet b layout count AtStart text new goes quiet = absurd goes
-  goes_quiet b layout count (Within config) text new goes quiet = goes.0
-  goes_quiet b layout count (Begun config) text new (state, starts, is) quiet = quiet_start b layout config text state starts (subst IsQuietFile is quiet)
+  goes_quiet b layout count next text new h6 h7 = grind (arith, nat_tests)
 
   head_quiet : (t : Bool) (b : B) (head : FileHead) (line text : List ℕ) (new : AuditFile R) → head_answers rules b t head line text new → IsQuietFile new → text ≡ []
   head_quiet true b head line text new h quiet = h.0

@@ -1,13 +1,13 @@
 -- The text of a head that was read is read back, and so replays of a migrated audit find what replays of the audit do.
-use Rattle.std.proofs.Common.{◌≡◌, ℕ, Bool, true, false, cond, List, [], ◌∷◌, ◌++◌, map, refl, sym, subst, ap, ◌∙◌, append_assoc, append-nil, ◌↔◌}
-use Rattle.std.specs.Prelude.{Option, Some, None, flat_map}
-use Rattle.std.specs.Option.{option_map}
+use Rattle.std.proofs.Common.{◌≡◌, ℕ, Bool, cond, List, [], ◌∷◌, ◌++◌, refl, sym, ap, ◌∙◌, append_assoc, append-nil, ◌↔◌, arith}
+use Rattle.std.specs.Prelude.{Option, None, flat_map}
 use Rattle.std.specs.Str.{bytes_eq}
 use Rattle.std.proofs.lemmas.Grind.{flat_map-append}
 use Rattle.std.proofs.lemmas.List.Folds.{flat_map-map}
+use Rattle.std.proofs.lemmas.Bool.Decides.{nat_tests}
 use Rattle.cops_types.specs.declared.configs.Config.{Config}
-use Rattle.cops_types.specs.Head.{Within, Whole, BadAt, head_of, reading_from}
-use Rattle.cops_types.specs.HeadLines.{begin_line, cluster_in, cluster_line}
+use Rattle.cops_types.specs.Head.{Whole, head_of}
+use Rattle.cops_types.specs.HeadLines.{cluster_in}
 use Rattle.cops_types.specs.Lines.{lines_of}
 use Rattle.cops_types.specs.Words.{newline}
 use Rattle.cops_types.proofs.HeadLemmas.{cluster_in-is}
@@ -16,7 +16,7 @@ use Rattle.cops_types.proofs.WordLemmas.{Lacks, lacks_from_test, same_bytes, byt
 use Rattle.cops_replay.specs.declared.layouts.Layout.{Layout}
 use Rattle.cops_replay.specs.declared.layouts.Layout.TheVariants.{Early, Today}
 use Rattle.cops_replay.specs.declared.refusals.ReplayRefusal.{ReplayRefusal}
-use Rattle.cops_replay.specs.AuditText.{ended, head_text, layout_line, tenant_text}
+use Rattle.cops_replay.specs.AuditText.{ended, head_text, layout_line}
 use Rattle.cops_replay.specs.MigratedText.{migration_of}
 use Rattle.cops_replay.specs.MigrationLaws.{IsAuditInBoth}
 use Rattle.cops_replay.specs.ReplayText.{IsRefusedBy, IsReplayBy, IsReplayOf, RefusesReplayOf, head_by, layout_of}
@@ -27,13 +27,7 @@ use Rattle.cops_replay.proofs.WholeMigrations.{alike, whole}
 
 -- the text is that of these lines, each with its newline
 pub head_text_is : (config : Config) → flat_map ended (layout_line ∷ written_head config) ≡ head_text config
-head_text_is config =
-    let first = ended layout_line in
-    let cluster = ended (cluster_line config) in
-    let tenants = flat_map tenant_text config.tenants in
-    let after_cluster : flat_map ended (map written_tenant config.tenants ++ begin_line ∷ []) ≡ tenants ++ ended begin_line = flat_map-append ended (map written_tenant config.tenants) (begin_line ∷ [])
-    ∙ (λ i. flat_map-map ended written_tenant config.tenants i ++ append-nil (ended begin_line) i) in
-    ap (λ text. first ++ (cluster ++ text)) after_cluster ∙ ap (λ text. first ++ text) (sym (append_assoc cluster tenants (ended begin_line)))
+head_text_is config = grind (arith, nat_tests, append-nil, append_assoc, flat_map-append, flat_map-map, written_tenant)
 
 -- of a head that some lines have, whatever comes after it
 pub lines_of_text : (lines rest : List (List ℕ)) (config : Config) (more : List ℕ) → head_of lines ≡ Whole config rest → lines_of (head_text config ++ more) ≡ layout_line ∷ (written_head config ++ lines_of more)
@@ -51,20 +45,10 @@ text_is_todays lines rest config more e = ap layout_of (lines_of_text lines rest
 -- ---- a head of layout 1 has no line for its layout
 
 no_cluster : (found : Option Config) → cluster_in layout_line ≡ found → found ≡ None
-no_cluster None e = refl
-no_cluster (Some config) e =
-    let other : layout_line ≡ cluster_line config = (cluster_in-is layout_line config e).spelled in
-    let differs : bytes_eq layout_line layout_line ≡ false = ap (λ line. bytes_eq line layout_line) other in
-    absurd (let clash : true ≡ false = sym (same_bytes layout_line) ∙ differs in cc)
+no_cluster found h1 = grind (arith, nat_tests, cluster_in-is, same_bytes)
 
 begins_early : (line : List ℕ) (others : List (List ℕ)) (config : Config) (rest : List (List ℕ)) (t : Bool) → bytes_eq line layout_line ≡ t → head_of (line ∷ others) ≡ Whole config rest → cond t Today Early ≡ Early
-begins_early line others config rest false t e = refl
-begins_early line others config rest true t e =
-    let same : line ≡ layout_line = bytes_from_test line layout_line t in
-    let none : cluster_in line ≡ None = ap cluster_in same ∙ no_cluster (cluster_in layout_line) refl in
-    let bad : head_of (line ∷ others) ≡ BadAt 1 = ap (λ found. elim (option_map Within found) [ None ↦ BadAt 1 | Some next ↦ reading_from others 2 next ]) none in
-    let clash : BadAt 1 ≡ Whole config rest = sym bad ∙ e in
-    absurd (let no : ⊥ = cc in no)
+begins_early line others config rest t h5 h6 = grind (arith, nat_tests, bytes_from_test, no_cluster)
 
 early_layout : (lines : List (List ℕ)) (config : Config) (rest : List (List ℕ)) → head_of lines ≡ Whole config rest → layout_of lines ≡ Early
 early_layout [] config rest e = refl
@@ -97,10 +81,7 @@ module _ (bytes : List ℕ) (config : Config) (lines : List (List ℕ)) (is : Is
   -- what holds in both layouts holds of both files in the layouts that they tell
   of_files : (P : Layout → List (List ℕ) → Type 0) → (P Early (lines_of bytes) ↔ P Today (lines_of moved_text)) →
       P (layout_of (lines_of bytes)) (lines_of bytes) ↔ P (layout_of (lines_of (migration_of bytes).text)) (lines_of (migration_of bytes).text)
-  of_files P both =
-      subst (λ moved. P (layout_of (lines_of bytes)) (lines_of bytes) ↔ P (layout_of (lines_of moved)) (lines_of moved)) text_moved
-      (subst (λ old. P old (lines_of bytes) ↔ P (layout_of (lines_of moved_text)) (lines_of moved_text)) (sym early)
-      (subst (λ new. P Early (lines_of bytes) ↔ P new (lines_of moved_text)) (sym todays) both))
+  of_files P both = grind (arith, nat_tests, early, text_moved, todays)
 
   pub replays_alike : (name text : List ℕ) → IsReplayOf name bytes text ↔ IsReplayOf name (migration_of bytes).text text
   replays_alike name text =

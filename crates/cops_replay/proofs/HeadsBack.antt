@@ -1,13 +1,12 @@
 -- A head that was read is read again from the lines that are written of it, with each token in lower case with hyphens.
-use Rattle.std.proofs.Common.{◌≡◌, ℕ, ◌+◌, ◌*◌, ◌<◌, ◌≤◌, ◌^◌, Bool, true, false, cond, ◌&&◌, inl, inr, All, List, [], ◌∷◌, ◌++◌, length, map, take, drop, slice_index, if◌then◌else◌, refl, sym, subst, ap, ◌∙◌, append_assoc, append-nil, arith, not, length-append}
+use Rattle.std.proofs.Common.{◌≡◌, ℕ, ◌+◌, ◌<◌, ◌≤◌, ◌^◌, Bool, true, false, cond, ◌&&◌, inl, inr, All, List, [], ◌∷◌, ◌++◌, length, map, drop, if◌then◌else◌, refl, sym, subst, ap, ◌∙◌, append_assoc, append-nil, arith, not, length-append}
 use Rattle.std.specs.Prelude.{IsTrue, codes, decimal, ◌==◌, Option, Some, None, nat_lt}
 use Rattle.std.specs.List.{AllByRecursion, AllPass, flat_map, list_all, list_any}
 use Rattle.std.proofs.lemmas.Bool.Decides.{nat_tests, Decides-eqb}
-use Rattle.std.proofs.lemmas.List.{map-append}
 use Rattle.std.proofs.lemmas.List.Elements.{recursion_from_All}
 use Rattle.std.proofs.lemmas.List.Sums.{AllPass-from_list_all}
 use Rattle.std.specs.Str.{bytes_eq}
-use Rattle.uuid.specs.Text.{by_index, byte_of_digits, close_brace, digit_place, digits_of, has_hyphens, has_urn_prefix, hex_digit, hyphen, hyphenated_text, is_hex_digit, is_hyphen_place, lower, nibble, open_brace, parsed, parsed_braced, parsed_hyphenated, parsed_simple, parsed_urn, value_of}
+use Rattle.uuid.specs.Text.{by_index, byte_of_digits, digit_place, digits_of, has_hyphens, has_urn_prefix, hex_digit, hyphen, hyphenated_text, is_hex_digit, is_hyphen_place, lower, nibble, parsed, parsed_braced, parsed_hyphenated, parsed_simple, parsed_urn}
 use Rattle.uuid.proofs.RoundTrips.{parses_hyphenated}
 use Rattle.uuid.proofs.TextLemmas.{by_index_at, by_index_length, nibble_small}
 use Rattle.cops_types.specs.declared.configs.Config.{Config}
@@ -43,22 +42,11 @@ by_cond false bytes one other is_one is_other e = is_other e
 no_token : (bytes : List ℕ) → None ≡ Some bytes → IsToken bytes
 no_token bytes e = absurd (let clash : ⊥ = cc in clash)
 
-digit_small : (c : ℕ) → is_hex_digit c ≡ true → value_of c < 16
-digit_small c h = grind (arith, nat_tests)
-
 byte_small : (hex : List ℕ) → length hex ≡ 32 → AllPass is_hex_digit hex → (j : ℕ) → j < 16 → byte_of_digits hex j < 256
-byte_small hex size digits j within =
-    let high = digit_small (slice_index hex (2 * j)) (digits (2 * j) 0 (omega arith)) in
-    let low = digit_small (slice_index hex (2 * j + 1)) (digits (2 * j + 1) 0 (omega arith)) in
-    omega (arith, high, low)
+byte_small hex size digits j within = grind (arith, nat_tests)
 
 bytes_fit : (hex : List ℕ) → length hex ≡ 32 → AllPass is_hex_digit hex → IsToken (by_index 16 (byte_of_digits hex))
-bytes_fit hex size digits = record {
-  size = by_index_length 16 (byte_of_digits hex);
-  fit = λ k d within.
-      let here : k < 16 = subst (λ n. k < n) (by_index_length 16 (byte_of_digits hex)) within in
-      subst (λ byte. byte < 256) (sym (by_index_at 16 (byte_of_digits hex) k d here)) (byte_small hex size digits k here);
-}
+bytes_fit hex size digits = grind (arith, nat_tests, by_index_at, by_index_length, byte_small)
 
 simple_token : (hex bytes : List ℕ) → parsed_simple hex ≡ Some bytes → IsToken bytes
 simple_token hex bytes e = by_test ((length hex == 32) && list_all is_hex_digit hex) refl e
@@ -73,21 +61,14 @@ hyphenated_token : (text bytes : List ℕ) → parsed_hyphenated text ≡ Some b
 hyphenated_token text bytes e = by_cond ((length text == 36) && has_hyphens text) bytes (parsed_simple (digits_of text)) None (simple_token (digits_of text) bytes) (no_token bytes) e
 
 braced_token : (text bytes : List ℕ) → parsed_braced text ≡ Some bytes → IsToken bytes
-braced_token text bytes e =
-    by_cond ((length text == 38) && (slice_index text 0 == open_brace) && (slice_index text 37 == close_brace)) bytes (parsed_hyphenated (take 36 (drop 1 text))) None
-    (hyphenated_token (take 36 (drop 1 text)) bytes) (no_token bytes) e
+braced_token text bytes e = grind (arith, nat_tests, by_cond, hyphenated_token, no_token)
 
 urn_token : (text bytes : List ℕ) → parsed_urn text ≡ Some bytes → IsToken bytes
 urn_token text bytes e = by_cond ((length text == 45) && has_urn_prefix text) bytes (parsed_hyphenated (drop 9 text)) None (hyphenated_token (drop 9 text) bytes) (no_token bytes) e
 
 -- in any form
 pub parsed_token : (text bytes : List ℕ) → parsed text ≡ Some bytes → IsToken bytes
-parsed_token text bytes e =
-    by_cond (length text == 32) bytes (parsed_simple text) (cond (length text == 36) (parsed_hyphenated text) (cond (length text == 38) (parsed_braced text) (cond (length text == 45) (parsed_urn text) None)))
-    (simple_token text bytes) (λ at_36.
-    by_cond (length text == 36) bytes (parsed_hyphenated text) (cond (length text == 38) (parsed_braced text) (cond (length text == 45) (parsed_urn text) None)) (hyphenated_token text bytes) (λ at_38.
-    by_cond (length text == 38) bytes (parsed_braced text) (cond (length text == 45) (parsed_urn text) None) (braced_token text bytes) (λ at_45.
-    by_cond (length text == 45) bytes (parsed_urn text) None (urn_token text bytes) (no_token bytes) at_45) at_38) at_36) e
+parsed_token text bytes e = grind (arith, nat_tests, braced_token, by_cond, hyphenated_token, no_token, simple_token, urn_token)
 
 -- ---- a token's text has no space and no newline
 
@@ -108,10 +89,7 @@ apart_from : (separator byte : ℕ) → separator < 45 → 45 ≤ byte → (byte
 apart_from separator byte low high = grind (arith, nat_tests)
 
 token_text_lacks : (separator : ℕ) → separator < 45 → (bytes : List ℕ) → Lacks separator (hyphenated_text lower bytes)
-token_text_lacks separator low bytes =
-    recursion_from_All (λ byte. (byte == separator) ≡ false) (hyphenated_text lower bytes) (λ k d within.
-    let here : k < 36 = subst (λ n. k < n) (by_index_length 36 (token_byte bytes)) within in
-    subst (λ byte. (byte == separator) ≡ false) (sym (by_index_at 36 (token_byte bytes) k d here)) (apart_from separator (token_byte bytes k) low (byte_high bytes k)))
+token_text_lacks separator low bytes = grind (arith, nat_tests, apart_from, by_index_at, by_index_length, byte_high, recursion_from_All)
 
 -- ---- the lines that are written
 
@@ -143,39 +121,27 @@ spaced_lacks word (next ∷ words) lacks all = Every-append (λ byte. (byte == n
 number_lacks : (n : ℕ) → IsTrue (is_u64 n) → Lacks newline (decimal n)
 number_lacks n h = decimal_lacks newline newline_foreign n h
 
+numbers_lack : (ns : List ℕ) → IsTrue (list_all is_u64 ns) → AllByRecursion (Lacks newline) (map decimal ns)
+numbers_lack [] h = tt
+numbers_lack (n ∷ ns) h = let parts = both (is_u64 n) (list_all is_u64 ns) h in (number_lacks n parts.0, numbers_lack ns parts.1)
+
 pub cluster_lacks : (config : Config) → IsTrue (are_sizes config) → Lacks newline (cluster_line config)
 cluster_lacks config h =
     let fits = sizes_fit config h in
-    spaced_lacks (codes "cluster") (decimal config.data_centres ∷ decimal config.shards ∷ decimal config.trans_time ∷ decimal config.restarts ∷ []) (lacks_from_test newline (codes "cluster") refl)
-    (number_lacks config.data_centres fits.data_centres, (number_lacks config.shards fits.shards, (number_lacks config.trans_time fits.trans_time, (number_lacks config.restarts fits.restarts, tt))))
+    let sizes : List ℕ = config.data_centres ∷ config.shards ∷ config.trans_time ∷ config.restarts ∷ [] in
+    spaced_lacks (codes "cluster") (map decimal sizes) (lacks_from_test newline (codes "cluster") refl) (numbers_lack sizes (rw (fits.data_centres, fits.shards, fits.trans_time, fits.restarts) refl))
 
 pub tenant_lacks : (last : ℕ) → last < 2 ^ 64 → (tenant : Tenant) → IsTrue (is_tenant_to last tenant) → Lacks newline (written_tenant tenant)
 tenant_lacks last small tenant h =
     let fits = tenant_fits last small tenant h in
-    let quota = tenant.quota in
+    let q = tenant.quota in
     let token = hyphenated_text lower tenant.token in
-    spaced_lacks (codes "tenant")
-    (tenant.name ∷ token ∷ decimal tenant.first_clock ∷ decimal quota.versions ∷ decimal quota.bytes ∷ decimal quota.outbox ∷ decimal quota.contexts ∷ decimal quota.deps ∷ decimal quota.actors ∷ decimal quota.audit ∷ [])
-    (lacks_from_test newline (codes "tenant") refl) (
+    let limits : List ℕ = tenant.first_clock ∷ q.versions ∷ q.bytes ∷ q.outbox ∷ q.contexts ∷ q.deps ∷ q.actors ∷ q.audit ∷ [] in
+    spaced_lacks (codes "tenant") (tenant.name ∷ token ∷ map decimal limits) (lacks_from_test newline (codes "tenant") refl) (
       name_lacks newline newline_foreign tenant.name fits.name,
       (
         token_text_lacks newline (omega arith) tenant.token,
-        (
-          number_lacks tenant.first_clock fits.first_clock,
-          (
-            number_lacks quota.versions fits.versions,
-            (
-              number_lacks quota.bytes fits.bytes,
-              (
-                number_lacks quota.outbox fits.outbox,
-                (
-                  number_lacks quota.contexts fits.contexts,
-                  (number_lacks quota.deps fits.deps, (number_lacks quota.actors fits.actors, (number_lacks quota.audit fits.audit, tt))),
-                ),
-              ),
-            ),
-          ),
-        ),
+        numbers_lack limits (rw (fits.first_clock, fits.versions, fits.bytes, fits.outbox, fits.contexts, fits.deps, fits.actors, fits.audit) refl),
       ),
     )
 
@@ -209,17 +175,10 @@ StandsIn last (Within config) = IsOfHead last config
 StandsIn last (Begun config) = IsOfHead last config
 
 bare_stands : (last : ℕ) (config : Config) → IsTrue (are_sizes config) → config.tenants ≡ [] → IsOfHead last config
-bare_stands last config sizes bare = record {
-  sizes = sizes;
-  few = (let none = ap (λ (ts : List Tenant). length ts) bare in omega (arith, none));
-  fit = subst (AreFit last) (sym bare) tt;
-  apart = subst (λ (ts : List Tenant). AreAllApart (map Some ts)) (sym bare) (record { names = tt; tokens = tt });
-}
+bare_stands last config sizes bare = grind (arith, nat_tests)
 
 neither : (a b : Bool) → (not a && not b) ≡ true → (a ≡ false) × (b ≡ false)
-neither true b h = absurd cc
-neither false true h = absurd cc
-neither false false h = (refl, refl)
+neither a b h2 = grind (arith, nat_tests)
 
 pub follows_stands : (last : ℕ) (front : Front) (line : List ℕ) (next : Front) → StandsIn last front → FollowsTo last front line next → StandsIn last next
 follows_stands last AtStart line next stands (config, is, e) = subst (StandsIn last) (sym e) (bare_stands last config is.within is.bare)
@@ -259,9 +218,7 @@ module _ (text_of : Tenant → List ℕ) where
       (swapped (text_of x) (text_of tenant) ∙ differs (text_of x) front tenant more apart.0) (fresh_behind front tenant more apart.1)
 
 is_new_among : (a b : Bool) → a ≡ false → b ≡ false → (not a && not b) ≡ true
-is_new_among false false p q = refl
-is_new_among false true p q = absurd cc
-is_new_among true b p q = absurd cc
+is_new_among a b h2 h3 = grind (arith, nat_tests)
 
 below_test : (n : ℕ) → n < most_tenants → nat_lt n most_tenants ≡ true
 below_test n h = grind (arith, nat_tests)

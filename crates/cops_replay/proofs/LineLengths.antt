@@ -1,29 +1,27 @@
 -- No line of a record is too long whose lists have at most 1,024 pairs.
-use Rattle.std.proofs.Common.{◌≡◌, ℕ, suc, ◌+◌, ◌*◌, ◌^◌, ◌<◌, ◌≤◌, true, false, ◌&&◌, List, [], ◌∷◌, ◌++◌, length, map, refl, arith, length-append}
+use Rattle.std.proofs.Common.{◌≡◌, ℕ, suc, ◌+◌, ◌*◌, ◌^◌, ◌<◌, ◌≤◌, true, ◌&&◌, List, [], ◌∷◌, ◌++◌, length, map, arith, length-append}
 use Rattle.std.specs.Prelude.{IsTrue, codes, decimal, nat_le, nat_lt}
 use Rattle.std.specs.List.{join_with_byte, list_all}
 use Rattle.std.specs.Ordering.{on}
 use Rattle.std.proofs.lemmas.Bool.Decides.{nat_tests}
 use Rattle.std.proofs.lemmas.Fmt.{length-decimal-le}
 use Rattle.cops_types.specs.declared.faults.Fault.{Fault}
-use Rattle.cops_types.specs.declared.faults.Fault.TheVariants.{VersionQuota, ByteQuota, OutboxFull, ClockFull}
 use Rattle.cops_types.specs.declared.pairs.Pair.{Pair}
 use Rattle.cops_types.specs.declared.records.EntryParts.{EntryParts as Entry}
 use Rattle.cops_types.specs.FaultText.{fault_text}
-use Rattle.cops_types.specs.Key.{is_key, is_key_byte, is_name, key_cmp}
+use Rattle.cops_types.specs.Key.{is_key, is_name, key_cmp}
 use Rattle.cops_types.specs.Layout.{NODES}
 use Rattle.cops_types.specs.Pairs.{pair_cmp}
 use Rattle.cops_types.specs.Search.{is_rising}
 use Rattle.cops_types.specs.TenantConfig.{TenantConfig}
-use Rattle.cops_types.specs.Value.{is_value}
 use Rattle.cops_types.specs.Version.{Timestamp, last_clock}
 use Rattle.cops_types.specs.Words.{is_u64, list_text, pair_text, spaced, version_text}
 use Rattle.cops_types.proofs.WordLemmas.{both}
 use Rattle.cops_model.specs.declared.calls.NodeCall.{NodeCall}
-use Rattle.cops_model.specs.declared.calls.NodeCall.TheVariants.{Get, Put, DepCheck, Pull, Commit, Ack, Collect}
+use Rattle.cops_model.specs.declared.calls.NodeCall.TheVariants.{Put, Commit}
 use Rattle.cops_model.specs.declared.calls.NodeId.{NodeId}
 use Rattle.cops_model.specs.declared.calls.NodeReply.{NodeReply}
-use Rattle.cops_model.specs.declared.calls.NodeReply.TheVariants.{Found, Absent, Gone, NotYet, Stored, Checked, Pulled, Nothing, Committed, Already, OutOfOrder, Acked, NotFront, Removed, Refused}
+use Rattle.cops_model.specs.declared.calls.NodeReply.TheVariants.{Found}
 use Rattle.cops_model.specs.declared.calls.Wanted.{Wanted}
 use Rattle.cops_model.specs.declared.calls.Wanted.TheVariants.{Latest, Exactly}
 use Rattle.cops_model.specs.ListLimits.{HasFewInCall, HasFewInReply, HasFewPairs}
@@ -62,11 +60,7 @@ number_short : (n : ℕ) → IsTrue (is_u64 n) → length (decimal n) ≤ 20
 number_short n h = let small : n < 2 ^ 64 = grind (arith, nat_tests) in length-decimal-le 20 n (omega arith) (omega arith) small
 
 node_short : (id : NodeId) → IsTrue (is_u64 id.dc) → IsTrue (is_u64 id.shard) → length (node_text id) ≤ 41
-node_short id dc shard =
-    let first = number_short id.dc dc in
-    let second = number_short id.shard shard in
-    let whole : length (node_text id) ≡ length (decimal id.dc) + suc (length (decimal id.shard)) = length-append (decimal id.dc) (46 ∷ decimal id.shard) in
-    omega (arith, first, second, whole)
+node_short id dc shard = grind (arith, nat_tests, length-append, number_short)
 
 clock_short : (n : ℕ) → IsTrue (nat_le n last_clock) → length (decimal n) ≤ 15
 clock_short n h = let small : n ≤ last_clock = at_most n last_clock h in length-decimal-le 15 n (omega arith) (omega arith) (omega arith)
@@ -75,32 +69,16 @@ number_of_node_short : (n : ℕ) → IsTrue (nat_lt n NODES) → length (decimal
 number_of_node_short n h = let small : n < NODES = grind (arith, nat_tests) in length-decimal-le 5 n (omega arith) (omega arith) (omega arith)
 
 version_short : (version : Timestamp) → IsTrue (is_version version) → length (version_text version) ≤ 21
-version_short version h =
-    let parts = both (nat_le version.clock last_clock) (nat_lt version.node NODES) h in
-    let first = clock_short version.clock parts.0 in
-    let second = number_of_node_short version.node parts.1 in
-    let whole : length (version_text version) ≡ length (decimal version.clock) + suc (length (decimal version.node)) = length-append (decimal version.clock) (46 ∷ decimal version.node) in
-    omega (arith, first, second, whole)
+version_short version h = grind (arith, nat_tests, both, clock_short, length-append, number_of_node_short)
 
 key_short : (key : List ℕ) → IsTrue (is_key key) → length key ≤ 64
-key_short key h =
-    let parts = both (nat_le 1 (length key) && nat_le (length key) 64) (list_all is_key_byte key) h in
-    at_most (length key) 64 (both (nat_le 1 (length key)) (nat_le (length key) 64) parts.0).1
+key_short key h = grind (arith, nat_tests)
 
 value_short : (value : List ℕ) → IsTrue (is_bytes value) → length (record_value value) ≤ 8193
-value_short [] h = omega arith
-value_short (byte ∷ bytes) h =
-    let few = at_most (length (byte ∷ bytes)) 4096 (both (list_all (λ b. nat_lt b 256) (byte ∷ bytes)) (is_value (byte ∷ bytes)) h).1 in
-    let twice = length-bytes_text (byte ∷ bytes) in
-    omega (arith, few, twice)
+value_short value h1 = grind (arith, nat_tests, at_most, both, length-bytes_text)
 
 pair_short : (pair : Pair) → IsTrue (is_pair pair) → length (pair_text pair) ≤ 86
-pair_short pair h =
-    let parts = both (is_key pair.key) (is_version pair.version) h in
-    let first = key_short pair.key parts.0 in
-    let second = version_short pair.version parts.1 in
-    let whole : length (pair_text pair) ≡ length pair.key + suc (length (version_text pair.version)) = length-append pair.key (58 ∷ version_text pair.version) in
-    omega (arith, first, second, whole)
+pair_short pair h = grind (arith, nat_tests, both, key_short, length-append, version_short)
 
 pairs_short : (pair : Pair) (pairs : List Pair) → IsTrue (list_all is_pair (pair ∷ pairs)) → length (join_with_byte 44 (map pair_text (pair ∷ pairs))) ≤ 87 * suc (length pairs)
 pairs_short pair [] h = let one = pair_short pair (both (is_pair pair) true h).0 in omega (arith, one)
@@ -127,27 +105,13 @@ wanted_short Latest h = omega arith
 wanted_short (Exactly version) h = version_short version h
 
 fault_short : (fault : Fault) → IsTrue (is_audited fault) → length (fault_text fault) ≤ 3
-fault_short VersionQuota h = let three : length (fault_text VersionQuota) ≡ 3 = refl in omega (arith, three)
-fault_short ByteQuota h = let three : length (fault_text ByteQuota) ≡ 3 = refl in omega (arith, three)
-fault_short OutboxFull h = let three : length (fault_text OutboxFull) ≡ 3 = refl in omega (arith, three)
-fault_short ClockFull h = let three : length (fault_text ClockFull) ≡ 3 = refl in omega (arith, three)
-fault_short fault h = absurd cc
+fault_short fault h1 = grind (arith, nat_tests)
 
 -- ---- calls and replies
 
 module _ (config : TenantConfig) (limit : config.quota.deps ≤ 1024) where
   entry_short : (entry : Entry) → IsTrue (is_entry entry) → HasFewPairs config entry → long (entry_words entry) ≤ 186483
-  entry_short entry h few =
-      let holds = entry_holds entry h in
-      let a = key_short entry.key holds.key in
-      let b = version_short entry.version holds.version in
-      let c = value_short entry.value holds.value in
-      let m = few.0 in
-      let n = few.1 in
-      let d = deps_short entry.deps holds.deps (omega (arith, n, limit)) in
-      let e = near_short entry.near holds.near (omega (arith, m, limit)) in
-      let f = version_short entry.prev holds.prev in
-      omega (arith, a, b, c, d, e, f)
+  entry_short entry h few = grind (arith, nat_tests, deps_short, entry_holds, key_short, near_short, value_short, version_short)
 
   -- so long may a call be
   abbrev most : NodeCall → ℕ
@@ -156,67 +120,20 @@ module _ (config : TenantConfig) (limit : config.quota.deps ≤ 1024) where
   most call = 200
 
   call_short : (call : NodeCall) → IsTrue (is_call call) → HasFewInCall config call → long (call_words call) ≤ most call
-  call_short (Get key wanted) h few =
-      let parts = both (is_key key) (is_wanted wanted) h in
-      let a = key_short key parts.0 in
-      let b = wanted_short wanted parts.1 in
-      omega (arith, a, b)
-  call_short (Put key value deps near) h few =
-      let p = both (is_key key && is_bytes value && are_deps deps) (are_near near) h in
-      let q = both (is_key key && is_bytes value) (are_deps deps) p.0 in
-      let r = both (is_key key) (is_bytes value) q.0 in
-      let m = few.0 in
-      let n = few.1 in
-      let a = key_short key r.0 in
-      let b = value_short value r.1 in
-      let c = deps_short deps q.1 (omega (arith, n, limit)) in
-      let d = near_short near p.1 (omega (arith, m, limit)) in
-      omega (arith, a, b, c, d)
-  call_short (DepCheck key version) h few =
-      let parts = both (is_key key) (is_version version) h in
-      let a = key_short key parts.0 in
-      let b = version_short version parts.1 in
-      omega (arith, a, b)
-  call_short (Pull dc) h few = let a = number_short dc h in omega (arith, a)
-  call_short (Commit entry) h few = let a = entry_short entry h few in omega (arith, a)
-  call_short (Ack dc version) h few =
-      let parts = both (is_u64 dc) (is_version version) h in
-      let a = number_short dc parts.0 in
-      let b = version_short version parts.1 in
-      omega (arith, a, b)
-  call_short Collect h few = omega arith
+  call_short call h1 h2 = grind (arith, nat_tests, both, deps_short, entry_short, key_short, near_short, number_short, value_short, version_short, wanted_short)
 
   found_short : (version : Timestamp) (value : List ℕ) (deps : List Pair) → IsTrue (is_version version && is_bytes value && are_deps deps) → length deps ≤ config.quota.deps → long (reply_words (Found (record { version = version; value = value; deps = deps }))) ≤ 98000
-  found_short version value deps h few =
-      let p = both (is_version version && is_bytes value) (are_deps deps) h in
-      let q = both (is_version version) (is_bytes value) p.0 in
-      let a = version_short version q.0 in
-      let b = value_short value q.1 in
-      let c = deps_short deps p.1 (omega (arith, few, limit)) in
-      omega (arith, a, b, c)
+  found_short version value deps h few = grind (arith, nat_tests, both, deps_short, value_short, version_short)
 
   most_small : (call : NodeCall) → most call ≤ 187000
-  most_small (Put key value deps near) = omega arith
-  most_small (Commit entry) = omega arith
-  most_small call = omega arith
+  most_small call = grind (arith, nat_tests)
 
   -- with its reply
   small_reply : (call : NodeCall) (words : List (List ℕ)) → long words ≤ 100 → most call + long words ≤ 187300
   small_reply call words h = let a = most_small call in omega (arith, a, h)
 
   reply_short : (reply : NodeReply) (call : NodeCall) → IsTrue (is_reply reply) → HasFewInReply config reply call → most call + long (reply_words reply) ≤ 187300
-  reply_short (Found f) (Get key wanted) h few = let a = found_short f.version f.value f.deps h few in omega (arith, a)
-  reply_short (Found f) call h few = absurd few
-  reply_short (Pulled entry) (Pull dc) h few = let a = entry_short entry h few in omega (arith, a)
-  reply_short (Pulled entry) call h few = absurd few
-  reply_short (Gone now) call h few = small_reply call (reply_words (Gone now)) (let a = number_short now h in omega (arith, a))
-  reply_short (Stored version) call h few = small_reply call (reply_words (Stored version)) (let a = version_short version h in omega (arith, a))
-  reply_short (Checked true) call h few = small_reply call (reply_words (Checked true)) (omega arith)
-  reply_short (Checked false) call h few = small_reply call (reply_words (Checked false)) (omega arith)
-  reply_short (OutOfOrder mark) call h few = small_reply call (reply_words (OutOfOrder mark)) (let a = version_short mark h in omega (arith, a))
-  reply_short (Removed count) call h few = small_reply call (reply_words (Removed count)) (let a = number_short count h in omega (arith, a))
-  reply_short (Refused fault) call h few = small_reply call (reply_words (Refused fault)) (let a = fault_short fault h in omega (arith, a))
-  reply_short reply call h few = small_reply call (reply_words reply) (omega arith)
+  reply_short reply call h2 h3 = grind (arith, nat_tests, entry_short, fault_short, found_short, number_short, small_reply, version_short)
 
   pub line_short : (tenant : List ℕ) (told : Record) → IsTrue (is_name tenant) → IsTrue (is_record told) → HasFewInCall config told.call → HasFewInReply config told.reply told.call →
       length (record_line tenant told) ≤ 200000

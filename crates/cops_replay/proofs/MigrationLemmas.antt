@@ -1,24 +1,20 @@
 -- What the rules of a migration come to over a whole text.
-use Rattle.std.proofs.Common.{◌≡◌, ℕ, ◌+◌, ◌<◌, ◌≤◌, Bool, true, false, cond, List, [], ◌∷◌, ◌++◌, length, map, inl, inr, refl, sym, subst, ap, ◌∙◌, append_assoc, append-nil, true≢false, arith, length-take}
-use Rattle.std.specs.Prelude.{Option, Some, None, IfSome, IsTrue, nat_le, nat_lt, Result, Ok, Err}
-use Rattle.std.specs.Option.{option_map, option_and_then}
-use Rattle.std.specs.Str.{bytes_eq}
+use Rattle.std.proofs.Common.{◌≡◌, ℕ, ◌+◌, ◌≤◌, Bool, true, false, cond, List, [], ◌∷◌, ◌++◌, length, map, inl, inr, refl, sym, subst, ap, ◌∙◌, append_assoc, append-nil, arith}
+use Rattle.std.specs.Prelude.{Option, Some, None, IfSome, IsTrue, nat_le, Result, Ok, Err}
 use Rattle.std.specs.Io.KnownBytes.{Appends}
 use Rattle.std.proofs.lemmas.Bool.Decides.{nat_tests}
 use Rattle.std.proofs.lemmas.List.{take_all}
 use Rattle.cops_types.specs.declared.configs.Config.{Config}
-use Rattle.cops_types.specs.declared.configs.Tenant.{Tenant}
 use Rattle.cops_types.specs.declared.faults.Fault.{Fault}
 use Rattle.cops_types.specs.declared.faults.Fault.TheVariants.{Syntax, ClockTooGreat}
 use Rattle.cops_script.specs.declared.line_runs.fault.RunFault.{RunFault}
 use Rattle.cops_script.specs.declared.line_runs.fault.RunFault.TheVariants as fault
 use Rattle.cops_types.specs.Counts.{counted}
-use Rattle.cops_types.specs.Head.{Front, AtStart, Within, Begun, is_begun, head_with, may_join, with_tenant}
-use Rattle.cops_types.specs.HeadLines.{begin_line}
+use Rattle.cops_types.specs.Head.{Front, AtStart, Begun, is_begun}
 use Rattle.cops_script.specs.LineRules.{Run}
 use Rattle.cops_script.specs.LineRuns.{AnswersAll, IfRunRefused, StopsEarly}
 use Rattle.cops_types.specs.Lines.{lines_of, cut_line, cut_lines}
-use Rattle.cops_types.specs.OldHead.{has_clocks_to, old_cluster_in, old_front_after, old_tenant_in, last_old_clock}
+use Rattle.cops_types.specs.OldHead.{has_clocks_to, old_front_after, last_old_clock}
 use Rattle.cops_types.specs.Sink.{AppendsFront}
 use Rattle.cops_script.proofs.KnownLemmas.{AppendsFront-more, input_is, known_lines, known_whole}
 use Rattle.cops_script.proofs.HeadRuns.{real_lines}
@@ -29,7 +25,7 @@ use Rattle.cops_replay.specs.declared.migrations.MigrationRefusal.{MigrationRefu
 use Rattle.cops_replay.specs.declared.migrations.MigrationRefusal.TheVariants.{BadConfig, BadLine}
 use Rattle.cops_replay.specs.AuditText.{ended}
 use Rattle.cops_replay.specs.MigratedText.{Migration, bad_config_at, bad_line_at, ends_by, migrated_from, migrated_front, migrated_records, migration_of, record_fault, with_text}
-use Rattle.cops_replay.specs.MigrationRules.{OldHeadIsRefused, RecordRefuses, migration_answers, migration_end_refuses, migration_refuses, migration_rules, part_answers, part_ends, part_refuses, part_refuses_end, records_in}
+use Rattle.cops_replay.specs.MigrationRules.{OldHeadIsRefused, RecordRefuses, migration_answers, migration_end_refuses, migration_refuses, migration_rules, part_answers, part_ends, part_refuses, records_in}
 use Rattle.cops_replay.specs.OldRecords.{last_early_clock, old_refusal_of}
 use Rattle.cops_replay.specs.ReplayText.{longest_record, told_number}
 use Rattle.cops_replay.specs.declared.layouts.Layout.TheVariants.{Early}
@@ -74,33 +70,19 @@ HasReached reached audit = IsAt reached audit.part audit.lines
 
 -- the line of a head after which it is whole
 begun_clocks : (front : Front) (line : List ℕ) (config : Config) → FollowsTo last_old_clock front line (Begun config) → IsTrue (has_clocks_to last_early_clock (Some front)) → IsTrue (has_clocks_to last_early_clock (Some (Begun config)))
-begun_clocks AtStart line config (other, is, after) fine = absurd (let clash : ⊥ = cc in clash)
-begun_clocks (Within old) line config (inl joins) fine = absurd (let after = joins.after in let clash : ⊥ = cc in clash)
-begun_clocks (Within old) line config (inr ends) fine = subst (λ (f : Front). IsTrue (has_clocks_to last_early_clock (Some f))) (sym ends.after) fine
-begun_clocks (Begun old) line config follows fine = absurd follows
+begun_clocks front line config h3 h4 = grind (arith, nat_tests)
 
 -- what the line of this number leads to
 pub front_goes : (number : ℕ) (front next : Front) (line : List ℕ) → old_front_after front line ≡ Some next → (t : Bool) → has_clocks_to last_early_clock (Some next) ≡ t → migrated_front number front line ≡ cond t (Ok next) (Err (bad_line_at number ClockTooGreat))
-front_goes number front next line e t clocks =
-    ap (λ (f : Option Front). elim f [
-      | None ↦ Err (bad_config_at number)
-      | Some next ↦ cond (has_clocks_to last_early_clock (Some next)) (Ok next) (Err (bad_line_at number ClockTooGreat))
-    ]) e
-    ∙ ap (λ b. cond b (Ok next) (Err (bad_line_at number ClockTooGreat))) clocks
+front_goes number front next line e t clocks = grind (arith, nat_tests)
 
 front_stops : (number : ℕ) (front : Front) (line : List ℕ) → old_front_after front line ≡ None → migrated_front number front line ≡ Err (bad_config_at number)
-front_stops number front line e =
-    ap (λ (f : Option Front). elim f [
-      | None ↦ Err (bad_config_at number)
-      | Some next ↦ cond (has_clocks_to last_early_clock (Some next)) (Ok next) (Err (bad_line_at number ClockTooGreat))
-    ]) e
+front_stops number front line e = grind (arith, nat_tests)
 
 -- what is left to do with the line of this number, by what it leads to
 pub head_line : (number : ℕ) (front : Front) (line : List ℕ) (later : List (List ℕ)) (found : Result Front MigrationRefusal) → is_begun front ≡ false → migrated_front number front line ≡ found →
     migrated_from (line ∷ later) number front ≡ elim found [ Err refusal ↦ ends_by (Err refusal) | Ok next ↦ migrated_from later (number + 1) next ]
-head_line number AtStart line later found still e = ap (λ (f : Result Front MigrationRefusal). elim f [ Err refusal ↦ ends_by (Err refusal) | Ok next ↦ migrated_from later (number + 1) next ]) e
-head_line number (Within config) line later found still e = ap (λ (f : Result Front MigrationRefusal). elim f [ Err refusal ↦ ends_by (Err refusal) | Ok next ↦ migrated_from later (number + 1) next ]) e
-head_line number (Begun config) line later found still e = absurd (true≢false still)
+head_line number front line later found h5 h6 = grind (arith, nat_tests)
 
 -- ---- one line
 
@@ -179,20 +161,6 @@ refused_line (InRecords n k) line later audit refusal (at, count) refuses =
     by_refusal (BadLine bad) (found, number) =
         record_line_left (n + 1) k line later (Some bad.fault) (sym (fault_cut line) ∙ found)
         ∙ (λ i. ends_by (Err (BadLine (record { line = sym (number ∙ ap counted count ∙ capped_more n) i; fault = bad.fault }))))
-
-refused_end : (reached : Reached) (audit : OldAudit) (refusal : MigrationRefusal) → HasReached reached audit → migration_end_refuses audit refusal → left_of reached [] ≡ ends_by (Err refusal)
-refused_end (InHead front n) audit refusal (at, count, still, fine) refuses =
-    by_refusal refusal (subst (λ (p : OldPart). part_refuses_end p (counted audit.lines) refusal) at refuses)
-  where
-    at_end : (front : Front) (number : ℕ) → is_begun front ≡ false → migrated_from [] number front ≡ ends_by (Err (bad_config_at number))
-    at_end AtStart number still = refl
-    at_end (Within config) number still = refl
-    at_end (Begun config) number still = absurd (true≢false still)
-
-    by_refusal : (refusal : MigrationRefusal) → part_refuses_end (Head (Some front)) (counted audit.lines) refusal → migrated_from [] (n + 1) front ≡ ends_by (Err refusal)
-    by_refusal (BadConfig bad) number = at_end front (n + 1) still ∙ ap (λ k. ends_by (Err (BadConfig (record { line = k })))) (sym (number ∙ ap counted count ∙ capped_more n))
-    by_refusal (BadLine bad) refuses = absurd refuses
-refused_end (InRecords n k) audit refusal (at, count) refuses = absurd (subst (λ (p : OldPart). part_refuses_end p (counted audit.lines) refusal) at refuses)
 
 -- the end of the records
 ended_well : (reached : Reached) (audit : OldAudit) → HasReached reached audit → part_ends audit.part → left_of reached [] ≡ ends_by (Ok (records_in audit.part))
@@ -283,11 +251,7 @@ module _ (old_contents new_contents new_remaining : Option (List ℕ)) (begins :
           ap (λ (m : Migration). m.outcome) (is ∙ ap (with_text text) (refused_line s.reached real rest audit refusal s.there (subst (λ l. migration_refuses audit l refusal) cut refuses)))
 
   at_end : (bytes text : List ℕ) (audit : OldAudit) (refusal : MigrationRefusal) → migration_end_refuses audit refusal → Stopped bytes [] text audit → (migration_of bytes).outcome ≡ Err refusal
-  at_end bytes text audit refusal refuses s = by_rest s.rest s.others_are s.is
-    where
-      by_rest : (rest : List (List ℕ)) → [] ≡ map (cut_line longest_record) rest → migration_of bytes ≡ with_text text (left_of s.reached rest) → (migration_of bytes).outcome ≡ Err refusal
-      by_rest (real ∷ rest) alike is = absurd (let clash : ⊥ = cc in clash)
-      by_rest [] alike is = ap (λ (m : Migration). m.outcome) (is ∙ ap (with_text text) (refused_end s.reached audit refusal s.there refuses))
+  at_end bytes text audit refusal refuses s = grind (arith, nat_tests)
 
   refusal_is : (bytes : List ℕ) (refusal : MigrationRefusal) → StopsEarly migration_rules longest_record (Some bytes) new_remaining begins old_contents new_contents (fault.Refused refusal) → (migration_of bytes).outcome ≡ Err refusal
   refusal_is bytes refusal p = elim p.refused.1 [

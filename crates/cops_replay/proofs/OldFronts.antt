@@ -1,26 +1,28 @@
--- Heads of layout 1: the state to which a line leads, and the length of the line.
-use Rattle.std.proofs.Common.{◌≡◌, ℕ, ◌+◌, ◌<◌, ◌≤◌, ◌^◌, ◌⊎◌, inl, inr, Bool, true, false, cond, List, [], ◌∷◌, ◌++◌, length, refl, sym, subst, ap, ◌∙◌, length-append, arith}
-use Rattle.std.specs.Prelude.{IsTrue, codes, decimal, nat_lt, nat_le, Option, Some, None}
+-- Heads of layout 1: the state to which a line leads, the length of the line, and what a reader says of it.
+use Rattle.std.proofs.Common.{◌≡◌, ℕ, suc, ◌+◌, ◌<◌, ◌≤◌, ◌^◌, ◌⊎◌, inl, inr, Bool, true, false, cond, List, [], ◌∷◌, ◌++◌, length, refl, sym, subst, ap, ◌∙◌, length-append, arith}
+use Rattle.std.specs.Prelude.{IsTrue, codes, decimal, Option, Some, None, IsFalse}
 use Rattle.std.specs.Option.{option_map, option_and_then}
 use Rattle.std.specs.Str.{bytes_eq}
+use Rattle.std.proofs.lemmas.Bool.Decides.{nat_tests}
 use Rattle.std.proofs.lemmas.Fmt.{length-decimal-le}
 use Rattle.cops_types.specs.declared.configs.Config.{Config}
 use Rattle.cops_types.specs.declared.configs.Tenant.{Tenant}
-use Rattle.cops_types.specs.declared.heads.HeadLine.{HeadLine}
 use Rattle.cops_types.specs.declared.heads.HeadLine.TheVariants.{More, Begin, BadLine}
 use Rattle.cops_types.specs.Counts.{counted}
-use Rattle.cops_types.specs.Head.{Front, AtStart, Within, Begun, Ends, Follows, Joins, head_with, may_join, with_tenant}
+use Rattle.cops_types.specs.Head.{Front, AtStart, Within, Begun, Ends, Follows, head_with, may_join, with_tenant}
 use Rattle.cops_types.specs.HeadLines.{IsClusterLine, IsTenantLineTo, are_sizes, begin_line, cluster_in, is_tenant, tenant_line}
 use Rattle.cops_types.specs.HeadReader.{said_at, still_open}
-use Rattle.cops_types.specs.OldHead.{last_old_clock, most_old_shards, old_front_after, old_front_with, old_tenant_in, with_few_shards}
+use Rattle.cops_types.specs.OldHead.{last_old_clock, old_front_after, old_front_with, old_tenant_in, with_few_shards, has_clocks_to}
 use Rattle.cops_types.specs.Version.{last_clock}
 use Rattle.cops_types.specs.Words.{spaced}
 use Rattle.cops_types.proofs.FrontLemmas.{front_after-finds}
 use Rattle.cops_types.proofs.HeadLemmas.{cluster_in-is, tenant_fits, tenant_in_to-is}
-use Rattle.cops_types.proofs.HeadLengths.{front_after-short}
+use Rattle.cops_types.proofs.HeadLengths.{front_after-short, tenant-short as todays-short}
 use Rattle.cops_types.proofs.HeadReading.{clock_within, is_tenant-made, quota_of_tenant}
 use Rattle.cops_types.proofs.WordLemmas.{bytes_from_test, same_value}
 use Rattle.cops_replay.specs.OldHeads.{OldHeadContinues, has_sizes}
+use Rattle.cops_replay.specs.MigrationRules.{OldHeadGoesOn}
+use Rattle.cops_replay.specs.OldRecords.{last_early_clock}
 
 -- ---- one line
 
@@ -39,10 +41,7 @@ FollowsTo last (Begun config) line next = ⊥
 
 -- today's lines
 pub follows_today : (front : Front) (line : List ℕ) (next : Front) → Follows front line next → FollowsTo last_clock front line next
-follows_today AtStart line next follows = follows
-follows_today (Within config) line next (inl joins) = inl (record { tenant = joins.tenant; said = joins.said; may = joins.may; after = joins.after })
-follows_today (Within config) line next (inr ends) = inr ends
-follows_today (Begun config) line next follows = follows
+follows_today front line next h3 = grind (arith, nat_tests)
 
 joined-is : (config : Config) (line : List ℕ) (next : Front) (found : Option Tenant) → old_tenant_in line ≡ found → option_and_then (head_with config) found ≡ Some next → JoinsTo last_old_clock config line next
 joined-is config line next None was e = absurd cc
@@ -58,12 +57,7 @@ within-is config line next false begins e = inl (joined-is config line next (old
 within-is config line next true begins e = inr (record { said = bytes_from_test line begin_line begins; after = sym (same_value (Begun config) next e) })
 
 start-is : (line : List ℕ) (next : Front) (found : Option Config) → cluster_in line ≡ found → option_map Within (option_and_then with_few_shards found) ≡ Some next → FollowsTo last_old_clock AtStart line next
-start-is line next None was e = absurd cc
-start-is line next (Some config) was e = by_few (nat_le config.shards most_old_shards) e
-  where
-    by_few : (t : Bool) → option_map Within (cond t (Some config) None) ≡ Some next → FollowsTo last_old_clock AtStart line next
-    by_few false e = absurd cc
-    by_few true e = (config, cluster_in-is line config was, sym (same_value (Within config) next e))
+start-is line next found h3 h4 = grind (arith, nat_tests, cluster_in-is, same_value)
 
 pub old_front_after-is : (front : Front) (line : List ℕ) (next : Front) → old_front_after front line ≡ Some next → FollowsTo last_old_clock front line next
 old_front_after-is AtStart line next e = start-is line next (cluster_in line) refl e
@@ -72,44 +66,23 @@ old_front_after-is (Begun config) line next e = absurd cc
 
 -- ---- how long a line is
 
--- with a number in it that has at most 20 digits more
-longer : (word more less : List ℕ) → length more ≤ length less + 20 → length (word ++ 32 ∷ more) ≤ length (word ++ 32 ∷ less) + 20
-longer word more less h = let one = length-append word (32 ∷ more) in let other = length-append word (32 ∷ less) in omega (arith, one, other, h)
-
-first_longer : (word other more : List ℕ) → length word ≤ 20 → length (word ++ 32 ∷ more) ≤ length (other ++ 32 ∷ more) + 20
-first_longer word other more h = let one = length-append word (32 ∷ more) in let two = length-append other (32 ∷ more) in omega (arith, one, two, h)
-
-abbrev from_start : Tenant → Tenant
-from_start tenant = record tenant { first_clock = 0 }
-
-abbrev lone : Config
-lone = record { data_centres = 0; shards = 0; trans_time = 0; restarts = 0; tenants = [] }
-
+-- with another first clock it has at most 20 bytes more
 tenant-short : (line : List ℕ) (tenant : Tenant) → IsTenantLineTo last_old_clock line tenant → length line ≤ 16384
 tenant-short line tenant is =
     let fits = tenant_fits last_old_clock (omega arith) tenant is.within in
-    let other : Tenant = from_start tenant in
+    let other : Tenant = record tenant { first_clock = 0 } in
     let good : IsTrue (is_tenant other) = is_tenant-made last_clock tenant.name tenant.token 0 tenant.quota fits.name (omega arith) (quota_of_tenant last_old_clock tenant is.within) in
-    let joins : Joins lone (tenant_line is.token other) (Within (with_tenant lone other)) = record {
-      tenant = other;
-      said = record { token = is.token; spelled = refl; one_word = is.one_word; parses = is.parses; within = good };
-      may = refl;
-      after = refl;
-    } in
-    let short = front_after-short (Within lone) (tenant_line is.token other) (Within (with_tenant lone other)) (front_after-finds (Within lone) (tenant_line is.token other) (Within (with_tenant lone other)) (inl joins)) in
+    let short = todays-short (tenant_line is.token other) other (record { token = is.token; spelled = refl; one_word = is.one_word; parses = is.parses; within = good }) in
     let low : tenant.first_clock < 2 ^ 64 = (let most = clock_within last_old_clock tenant is.within in omega (arith, most)) in
     let digits = length-decimal-le 20 tenant.first_clock (omega arith) (omega arith) low in
     let q = tenant.quota in
     let rest : List ℕ = spaced (decimal q.versions ∷ decimal q.bytes ∷ decimal q.outbox ∷ decimal q.contexts ∷ decimal q.deps ∷ decimal q.actors ∷ decimal q.audit ∷ []) in
-    let from_clock : ℕ → List ℕ = λ clock. decimal clock ++ (32 ∷ rest) in
-    let from_token : ℕ → List ℕ = λ clock. is.token ++ (32 ∷ from_clock clock) in
-    let from_name : ℕ → List ℕ = λ clock. tenant.name ++ (32 ∷ from_token clock) in
-    let clocks = first_longer (decimal tenant.first_clock) (decimal 0) rest digits in
-    let tokens = longer is.token (from_clock tenant.first_clock) (from_clock 0) clocks in
-    let names = longer tenant.name (from_token tenant.first_clock) (from_token 0) tokens in
-    let more = longer (codes "tenant") (from_name tenant.first_clock) (from_name 0) names in
-    let here : length (tenant_line is.token tenant) ≤ length (tenant_line is.token other) + 20 = more in
-    subst (λ l. length l ≤ 16384) (sym is.spelled) (omega (arith, short, here))
+    let long : (clock : ℕ) → length (tenant_line is.token (record tenant { first_clock = clock })) ≡ 6 + suc (length tenant.name + suc (length is.token + suc (length (decimal clock) + suc (length rest)))) = λ clock.
+    let later : List ℕ = decimal clock ++ (32 ∷ rest) in
+    length-append (codes "tenant") (32 ∷ (tenant.name ++ (32 ∷ (is.token ++ (32 ∷ later)))))
+    ∙ ap (λ n. 6 + suc n) (length-append tenant.name (32 ∷ (is.token ++ (32 ∷ later)))
+    ∙ ap (λ n. length tenant.name + suc n) (length-append is.token (32 ∷ later) ∙ ap (λ n. length is.token + suc n) (length-append (decimal clock) (32 ∷ rest)))) in
+    subst (λ l. length l ≤ 16384) (sym is.spelled) (omega (arith, short, digits, long tenant.first_clock, long 0))
 
 follows-short : (front : Front) (line : List ℕ) (next : Front) → FollowsTo last_old_clock front line next → length line ≤ 16384
 follows-short AtStart line next (config, is, after) =
@@ -139,10 +112,7 @@ front_with_sized (Some front) line good = by_found (old_front_after front line) 
     by_found (Some next) e = follows_sized front line next (old_front_after-is front line next e) good
 
 open_sized : (front : Option Front) → IsTrue (has_sizes front) → IsTrue (has_sizes (still_open front))
-open_sized None good = refl
-open_sized (Some AtStart) good = refl
-open_sized (Some (Within config)) good = good
-open_sized (Some (Begun config)) good = refl
+open_sized front good = grind (arith, nat_tests)
 
 pub still_sized : (front : Option Front) (line : List ℕ) (new : Option Front) → IsTrue (has_sizes front) → new ≡ still_open (old_front_with front line) → IsTrue (has_sizes new)
 still_sized front line new good is = subst (λ n. IsTrue (has_sizes n)) (sym is) (open_sized (old_front_with front line) (front_with_sized front line good))
@@ -154,10 +124,7 @@ begin_sized front line config good is = subst (λ f. IsTrue (has_sizes f)) is (f
 
 -- no line leads back to the start
 not_back : (front : Front) (line : List ℕ) → FollowsTo last_old_clock front line AtStart → ⊥
-not_back AtStart line f = cc
-not_back (Within config) line (inl joins) = let after = joins.after in cc
-not_back (Within config) line (inr ends) = let after = ends.after in cc
-not_back (Begun config) line f = f
+not_back front line h2 = grind (arith, nat_tests)
 
 never_at_start : (front : Option Front) (line : List ℕ) → old_front_with front line ≡ Some AtStart → ⊥
 never_at_start None line e = cc
@@ -173,25 +140,17 @@ more_said front count line new new_count said is counts = by_found (old_front_wi
     by_found (Some (Within config)) e said is = record { config = config; found = e; kept = is; counts = counts }
     by_found (Some (Begun config)) e said is = cc
 
-abbrev config_of : Config → HeadLine → Config
-config_of other More = other
-config_of other (Begin config) = config
-config_of other BadLine = other
-
 pub begin_said : (front : Option Front) (line : List ℕ) (config : Config) → Begin config ≡ said_at (old_front_with front line) → old_front_with front line ≡ Some (Begun config)
-begin_said front line config said = by_found (old_front_with front line) refl said
-  where
-    by_found : (found : Option Front) → old_front_with front line ≡ found → Begin config ≡ said_at found → old_front_with front line ≡ Some (Begun config)
-    by_found None e said = cc
-    by_found (Some AtStart) e said = cc
-    by_found (Some (Within other)) e said = cc
-    by_found (Some (Begun other)) e said = e ∙ ap (λ h. Some (Begun (config_of config h))) (sym said)
+begin_said front line config said = grind (arith, nat_tests)
 
 pub bad_said : (front : Option Front) (line : List ℕ) → BadLine ≡ said_at (old_front_with front line) → old_front_with front line ≡ None
-bad_said front line said = by_found (old_front_with front line) refl said
-  where
-    by_found : (found : Option Front) → old_front_with front line ≡ found → BadLine ≡ said_at found → old_front_with front line ≡ None
-    by_found None e said = e
-    by_found (Some AtStart) e said = cc
-    by_found (Some (Within other)) e said = cc
-    by_found (Some (Begun other)) e said = cc
+bad_said front line said = grind (arith, nat_tests)
+
+module _ (old : Option Front) (line : List ℕ) (new : Option Front) where
+  pub goes_on : More ≡ said_at (old_front_with old line) → new ≡ still_open (old_front_with old line) → has_clocks_to last_early_clock new ≡ true → OldHeadGoesOn old line new
+  goes_on said kept clocks =
+      let more = more_said old 0 line new (counted 0) said kept refl in
+      record { next = Within more.config; found = more.found; still = refl; clocks = sym (ap (has_clocks_to last_early_clock) more.kept) ∙ clocks; kept = more.kept }
+
+  pub too_great : More ≡ said_at (old_front_with old line) → new ≡ still_open (old_front_with old line) → has_clocks_to last_early_clock new ≡ false → (next : Front) × (old_front_with old line ≡ Some next) × IsFalse (has_clocks_to last_early_clock (Some next))
+  too_great said kept clocks = let more = more_said old 0 line new (counted 0) said kept refl in (Within more.config, more.found, sym (ap (has_clocks_to last_early_clock) more.kept) ∙ clocks)

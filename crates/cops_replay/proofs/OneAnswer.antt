@@ -1,7 +1,8 @@
 -- A replay has one result, and depends on the tenant's part of the file alone.
-use Rattle.std.proofs.Common.{◌≡◌, ℕ, ◌+◌, true, false, ◌||◌, List, [], ◌∷◌, map, inl, inr, refl, sym, subst, ap, ◌∙◌}
-use Rattle.std.specs.Prelude.{Some, None, nat_lt, slice_get}
+use Rattle.std.proofs.Common.{◌≡◌, ℕ, ◌+◌, ◌||◌, List, [], ◌∷◌, map, inl, inr, refl, sym, subst, ap, ◌∙◌, arith}
+use Rattle.std.specs.Prelude.{Some, None, nat_lt}
 use Rattle.std.specs.List.{list_any}
+use Rattle.std.proofs.lemmas.Bool.Decides.{nat_tests}
 use Rattle.cops_types.specs.declared.configs.Config.{Config}
 use Rattle.cops_types.specs.declared.configs.Tenant.{Tenant}
 use Rattle.cops_types.specs.Head.{Whole, BadAt}
@@ -16,10 +17,8 @@ use Rattle.cops_replay.specs.declared.Replayed.{Replayed}
 use Rattle.cops_replay.specs.declared.refusals.ReplayRefusal.{ReplayRefusal}
 use Rattle.cops_replay.specs.declared.refusals.ReplayRefusal.TheVariants.{BadConfig, UnknownTenant, ClockTooGreat}
 use Rattle.cops_replay.specs.OldRecords.{last_early_clock}
-use Rattle.cops_replay.specs.OwnLines.{alone_lines}
 use Rattle.cops_replay.specs.Replaying.{fresh_nodes}
-use Rattle.cops_replay.specs.ReplayParts.{HasPart, seen_lines}
-use Rattle.cops_replay.specs.ReplayText.{IsAuditFor, FindsBy, IsReplayBy, IsReplayOf, IsRefusedBy, RefusesReplayOf, head_by, is_great_in, longest_record, replayed_text, starts_great_in}
+use Rattle.cops_replay.specs.ReplayText.{FindsBy, HasPart, IsAuditFor, IsRefusedBy, IsReplayBy, IsReplayOf, RefusesReplayOf, alone_lines, head_by, is_great_in, longest_record, seen_lines, starts_great_in}
 use Rattle.cops_replay.specs.VersionLayouts.{nodes_after_in}
 use Rattle.cops_replay.proofs.RecordRuns.{great_cut, told_cut}
 
@@ -44,48 +43,16 @@ module _ (name : List ℕ) (layout : Layout) (lines : List (List ℕ)) where
   same_whole c d r s one other = let e : Whole c r ≡ Whole d s = sym one ∙ other in (let same : c ≡ d = cc in same, let same : r ≡ s = cc in same)
 
   pub same_tenant : (one other : IsAuditFor layout name lines) → SameTenant one.config other.config one.records other.records one.tenant other.tenant
-  same_tenant one other =
-      let whole = same_whole one.config other.config one.records other.records one.head other.head in
-      let slots : Some one.slot ≡ Some other.slot = sym one.there ∙ ap (λ (x : Config). slot_of_name x.tenants name) whole.0 ∙ other.there in
-      let slot : one.slot ≡ other.slot = cc in
-      let tenants : Some one.tenant ≡ Some other.tenant = sym one.tenant_is ∙ (λ k. slice_get (whole.0 k).tenants (slot k)) ∙ other.tenant_is in
-      let tenant : one.tenant ≡ other.tenant = cc in
-      record { config = whole.0; records = whole.1; tenant = tenant }
+  same_tenant one other = grind (arith, nat_tests, same_whole)
 
   pub one_text : (text other : List ℕ) → IsReplayBy layout name lines text → IsReplayBy layout name lines other → text ≡ other
-  one_text text other p q =
-      let same = same_tenant p.audit q.audit in
-      let mine : tenant_config p.audit.config p.audit.tenant ≡ tenant_config q.audit.config q.audit.tenant = λ i. tenant_config (same.config i) (same.tenant i) in
-      let finds : FindsBy layout layout (tenant_config q.audit.config q.audit.tenant) 0 (fresh_nodes (tenant_config q.audit.config q.audit.tenant)) (alone_lines name q.audit.records) p.found =
-      subst (λ ls. FindsBy layout layout (tenant_config q.audit.config q.audit.tenant) 0 (fresh_nodes (tenant_config q.audit.config q.audit.tenant)) (alone_lines name ls) p.found) same.records
-      (subst (λ (c : TenantConfig). FindsBy layout layout c 0 (fresh_nodes c) (alone_lines name p.audit.records) p.found) mine p.finds) in
-      p.text_is ∙ ap replayed_text (one_found layout layout (tenant_config q.audit.config q.audit.tenant) 0 (fresh_nodes (tenant_config q.audit.config q.audit.tenant)) (alone_lines name q.audit.records) p.found q.found finds q.finds) ∙ sym q.text_is
+  one_text text other p q = grind (arith, nat_tests, one_found, same_tenant)
 
   pub one_refusal : (refusal other : ReplayRefusal) → IsRefusedBy layout name lines refusal → IsRefusedBy layout name lines other → refusal ≡ other
-  one_refusal (BadConfig bad) (BadConfig worse) p q = let e : BadAt bad.line ≡ BadAt worse.line = sym p ∙ q in let same : bad.line ≡ worse.line = cc in ap (λ n. BadConfig (record { line = n })) same
-  one_refusal (BadConfig bad) UnknownTenant p (config, rest, head, none) = absurd (let e : BadAt bad.line ≡ Whole config rest = sym p ∙ head in let no : ⊥ = cc in no)
-  one_refusal (BadConfig bad) ClockTooGreat p q = absurd (let e : BadAt bad.line ≡ Whole q.audit.config q.audit.records = sym p ∙ q.audit.head in let no : ⊥ = cc in no)
-  one_refusal UnknownTenant (BadConfig bad) (config, rest, head, none) q = absurd (let e : BadAt bad.line ≡ Whole config rest = sym q ∙ head in let no : ⊥ = cc in no)
-  one_refusal UnknownTenant UnknownTenant p q = refl
-  one_refusal UnknownTenant ClockTooGreat (config, rest, head, none) q =
-      let same = same_whole config q.audit.config rest q.audit.records head q.audit.head in
-      absurd (let e : None ≡ Some q.audit.slot = sym none ∙ ap (λ (x : Config). slot_of_name x.tenants name) same.0 ∙ q.audit.there in let no : ⊥ = cc in no)
-  one_refusal ClockTooGreat (BadConfig bad) p q = absurd (let e : BadAt bad.line ≡ Whole p.audit.config p.audit.records = sym q ∙ p.audit.head in let no : ⊥ = cc in no)
-  one_refusal ClockTooGreat UnknownTenant p (config, rest, head, none) =
-      let same = same_whole config p.audit.config rest p.audit.records head p.audit.head in
-      absurd (let e : None ≡ Some p.audit.slot = sym none ∙ ap (λ (x : Config). slot_of_name x.tenants name) same.0 ∙ p.audit.there in let no : ⊥ = cc in no)
-  one_refusal ClockTooGreat ClockTooGreat p q = refl
+  one_refusal refusal other h2 h3 = grind (arith, nat_tests, same_whole)
 
   pub not_both : (text : List ℕ) (refusal : ReplayRefusal) → IsReplayBy layout name lines text → IsRefusedBy layout name lines refusal → ⊥
-  not_both text (BadConfig bad) p q = let e : BadAt bad.line ≡ Whole p.audit.config p.audit.records = sym q ∙ p.audit.head in let no : ⊥ = cc in no
-  not_both text UnknownTenant p (config, rest, head, none) =
-      let same = same_whole config p.audit.config rest p.audit.records head p.audit.head in
-      let e : None ≡ Some p.audit.slot = sym none ∙ ap (λ (x : Config). slot_of_name x.tenants name) same.0 ∙ p.audit.there in
-      let no : ⊥ = cc in no
-  not_both text ClockTooGreat p q =
-      let same = same_tenant p.audit q.audit in
-      let great : false ≡ true = sym p.fits ∙ (λ i. starts_great_in layout (same.tenant i) || list_any (is_great_in layout) (alone_lines name (same.records i))) ∙ q.great in
-      let no : ⊥ = cc in no
+  not_both text refusal h2 h3 = grind (arith, nat_tests, same_tenant, same_whole)
 
 -- ---- two files in which the tenant has the same part
 

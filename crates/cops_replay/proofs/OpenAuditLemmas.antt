@@ -1,7 +1,8 @@
 -- The audit of the open tenants is that of their list and of their slots.
-use Rattle.std.proofs.Common.{◌≡◌, ℕ, List, refl, sym, subst}
+use Rattle.std.proofs.Common.{◌≡◌, ℕ, List, refl, sym, subst, arith}
 use Rattle.std.specs.Prelude.{slice_index_or, Option}
 use Rattle.std.specs.List.{AllByRecursion}
+use Rattle.std.proofs.lemmas.Bool.Decides.{nat_tests}
 use Rattle.cops_types.specs.declared.configs.Config.{Config}
 use Rattle.cops_types.specs.declared.configs.Tenant.{Tenant}
 use Rattle.cops_types.specs.Head.{Whole, head_of}
@@ -25,9 +26,7 @@ pub record AreOpenOf (tenants : List (Option Tenant)) (found : List Tenant) (slo
 module _ (config : Config) (tenants : List (Option Tenant)) (nodes : List Shared) (found : List Tenant) (slots : List ℕ) (of : AreOpenOf tenants found slots) where
   -- what holds of the open tenants holds of these
   of_these : (P : List Tenant → List ℕ → Type 0) → P (open_tenants tenants) (open_slots tenants) → P found slots
-  of_these P h =
-      subst (λ (ts : List Tenant). P ts slots) (sym of.found_are)
-      (subst (λ (ns : List ℕ). P (open_tenants tenants) ns) (sym of.slots_are) h)
+  of_these P h = grind (arith, nat_tests)
 
   pub nodes_of_found : AreNodesOfOpen config tenants nodes → AreNodesAt config found slots nodes
   nodes_of_found are = of_these (λ ts ns. AreNodesAt config ts ns nodes) (nodes_of_open config tenants nodes are.by_number are.each_tenant)

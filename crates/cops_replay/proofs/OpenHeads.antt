@@ -1,6 +1,6 @@
 -- The tenants who are open behind the lines of a script could stand in a head.
-use Rattle.std.proofs.Common.{◌≡◌, ℕ, zero, suc, ◌+◌, ◌-◌, ◌<◌, ◌≤◌, Bool, true, false, cond, not, ◌&&◌, ◌==◌, List, [], ◌∷◌, ◌++◌, length, map, set, inl, inr, refl, sym, subst, ap, ◌∙◌, append_assoc, append-nil, length-append, arith}
-use Rattle.std.specs.Prelude.{IsTrue, codes, is_none, nat_lt, replicate, slice_get, Option, Some, None}
+use Rattle.std.proofs.Common.{◌≡◌, ℕ, zero, suc, ◌+◌, ◌-◌, ◌<◌, ◌≤◌, Bool, true, false, cond, ◌==◌, List, [], ◌∷◌, ◌++◌, length, map, set, refl, sym, ap, ◌∙◌, append-nil, arith}
+use Rattle.std.specs.Prelude.{codes, replicate, slice_get, Option, Some, None}
 use Rattle.std.specs.List.{AllByRecursion, list_any}
 use Rattle.std.specs.Str.{bytes_eq}
 use Rattle.std.proofs.Math.ListN.{length-set}
@@ -8,25 +8,18 @@ use Rattle.std.proofs.lemmas.Bool.Decides.{nat_tests}
 use Rattle.cops_types.specs.declared.configs.Config.{Config}
 use Rattle.cops_types.specs.declared.configs.Tenant.{Tenant}
 use Rattle.cops_types.specs.declared.faults.Fault.{Fault}
-use Rattle.cops_types.specs.declared.faults.Fault.TheVariants.{NameTaken, NoSlot}
-use Rattle.cops_types.specs.Head.{Front, AtStart, Within, Begun, Follows, Leads, Whole, Says, head_of}
-use Rattle.cops_types.specs.HeadLines.{are_sizes, begin_line, is_distinct, is_tenant, most_tenants, tenant_in}
+use Rattle.cops_types.specs.Head.{AtStart, Whole, head_of}
+use Rattle.cops_types.specs.HeadLines.{most_tenants, tenant_in}
 use Rattle.cops_script.specs.HostLines.{admitted_in, closed_in, plus}
 use Rattle.cops_types.specs.OpenSlots.{admission_refusal, begun_with, has_name, has_token, open_at, open_slot_of_name}
-use Rattle.cops_types.specs.Search.{first_refusal}
 use Rattle.cops_types.specs.TenantTexts.{AreApart, has_text}
 use Rattle.cops_types.specs.Words.{first_word}
 use Rattle.cops_types.specs.Version.{last_clock}
-use Rattle.cops_types.proofs.BegunSlots.{apart_behind, apart_more}
-use Rattle.cops_types.proofs.FrontLemmas.{head_of-says}
+use Rattle.cops_types.proofs.BegunSlots.{apart_behind}
 use Rattle.cops_types.proofs.HeadLemmas.{tenant_in-is}
 use Rattle.cops_script.proofs.HostLineLemmas.{admitted-good}
-use Rattle.cops_types.proofs.OpenSlotLemmas.{apart_left, apart_put, both_fail, left_fails, right_fails, swapped}
-use Rattle.cops_types.proofs.WordLemmas.{both, and}
-use Rattle.cops_types.proofs.Elements.{Every-append}
-use Rattle.cops_model.specs.declared.acts.Act.{Act}
-use Rattle.cops_script.specs.ActLines.{act_in}
-use Rattle.cops_script.specs.Said.{Said, OfHost, admission_of, admission_unless, begins_admission, begins_closing, closing_at, closing_of, said_found, said_by, said_in, tenants_after, tenants_past}
+use Rattle.cops_types.proofs.OpenSlotLemmas.{apart_left, apart_put, both_fail, left_fails, right_fails}
+use Rattle.cops_script.specs.Said.{Said, OfHost, admission_of, admission_unless, begins_admission, begins_closing, closing_of, said_found, said_in, tenants_after, tenants_past}
 use Rattle.cops_model.specs.Setups.{next_slot}
 use Rattle.cops_script.specs.Script.{said_to}
 use Rattle.cops_script.proofs.OpenSets.{may_be_given}
@@ -78,12 +71,7 @@ free_there (t ∷ tenants) (suc slot) below vacant = free_there tenants slot (om
 
 -- no open tenant has its name, or its token
 fresh_to : (tenants : List (Option Tenant)) (slot : ℕ) (tenant : Tenant) → admission_refusal tenants slot tenant ≡ None → (list_any (has_name tenant.name) tenants ≡ false) × (list_any (has_token tenant.token) tenants ≡ false)
-fresh_to tenants slot tenant e = by (list_any (has_name tenant.name) tenants) (list_any (has_token tenant.token) tenants) (nat_lt slot most_tenants && is_none (open_at slot tenants)) e
-  where
-    by : (a b c : Bool) → first_refusal ((not (not a && not b), NameTaken) ∷ (not c, NoSlot) ∷ []) ≡ None → (a ≡ false) × (b ≡ false)
-    by true b c e = absurd cc
-    by false true c e = absurd cc
-    by false false c e = (refl, refl)
+fresh_to tenants slot tenant e = grind (arith, nat_tests)
 
 admitted_token : (line : List ℕ) (tenant : Tenant) → admitted_in line ≡ Some tenant → IsToken tenant.token
 admitted_token [] tenant e = absurd cc
@@ -100,22 +88,7 @@ module _ (tenants : List (Option Tenant)) (can : CanStand tenants) where
   After said = CanStand (tenants_after tenants said)
 
   unless_stands : (tenant : Tenant) (refusal : Option Fault) → IsFit last_clock tenant → admission_refusal tenants (next_slot tenants) tenant ≡ refusal → After (OfHost (admission_unless tenants tenant refusal))
-  unless_stands tenant None fit e =
-      let slot = next_slot tenants in
-      let given = may_be_given tenants slot tenant e in
-      let low = given.low in
-      let many = can.all in
-      let there = free_there tenants slot (omega (arith, low, many)) given.vacant in
-      let fresh = fresh_to tenants slot tenant e in
-      record {
-        all = length-set tenants slot (Some tenant) ∙ can.all;
-        fit = fit_set tenants slot (Some tenant) can.fit fit;
-        apart = record {
-          names = apart_put (λ t. t.name) tenants slot tenant there can.apart.names fresh.0;
-          tokens = apart_put (λ t. t.token) tenants slot tenant there can.apart.tokens fresh.1;
-        };
-      }
-  unless_stands tenant (Some fault) fit e = can
+  unless_stands tenant refusal h2 h3 = grind (arith, nat_tests, apart_put, fit_set, free_there, fresh_to, length-set, may_be_given)
 
   admission_stands : (line : List ℕ) (found : Option Tenant) → admitted_in line ≡ found → After (OfHost (admission_of tenants found))
   admission_stands line None e = can
@@ -123,24 +96,10 @@ module _ (tenants : List (Option Tenant)) (can : CanStand tenants) where
       unless_stands tenant (admission_refusal tenants (next_slot tenants) tenant) (record { good = admitted-good line tenant e; token = admitted_token line tenant e }) refl
 
   closing_stands : (found : Option (List ℕ)) → After (OfHost (closing_of tenants found))
-  closing_stands None = can
-  closing_stands (Some name) = by (open_slot_of_name tenants name)
-    where
-      by : (slot : Option ℕ) → After (OfHost (closing_at name slot))
-      by None = can
-      by (Some slot) = record {
-        all = length-set tenants slot None ∙ can.all;
-        fit = fit_set tenants slot None can.fit tt;
-        apart = record { names = apart_left (λ t. t.name) tenants slot can.apart.names; tokens = apart_left (λ t. t.token) tenants slot can.apart.tokens };
-      }
+  closing_stands found = grind (arith, nat_tests, apart_left, fit_set, length-set)
 
   at_stands : (line : List ℕ) (found : Option ℕ) → After (said_found line found)
-  at_stands line None = can
-  at_stands line (Some slot) = by (act_in (first_word line) line)
-    where
-      by : (act : Option Act) → After (said_by slot act)
-      by None = can
-      by (Some act) = can
+  at_stands line found = grind (arith, nat_tests)
 
   after_stands : (line : List ℕ) → After (said_in tenants line)
   after_stands line =

@@ -1,6 +1,6 @@
 -- Nodes that have the open tenants.
-use Rattle.std.proofs.Common.{◌≡◌, ◌∙◌, ℕ, zero, suc, ◌+◌, ◌<◌, ◌≤◌, Bool, true, false, ◌&&◌, List, [], ◌∷◌, length, refl, sym, ap, subst, arith}
-use Rattle.std.specs.Prelude.{◌↔◌, IsTrue, nat_eq, nat_lt, slice_get, Option, Some, None}
+use Rattle.std.proofs.Common.{◌≡◌, ◌∙◌, ℕ, zero, suc, ◌+◌, ◌<◌, ◌≤◌, Bool, true, false, List, [], ◌∷◌, length, refl, sym, ap, subst, arith}
+use Rattle.std.specs.Prelude.{◌↔◌, IsTrue, nat_eq, Option, Some, None}
 use Rattle.std.specs.List.{AllByRecursion, list_all}
 use Rattle.std.proofs.lemmas.Bool.{eq-eqb, eqb-true}
 use Rattle.std.proofs.lemmas.Bool.Decides.{nat_tests}
@@ -14,39 +14,8 @@ use Rattle.cops_replay.specs.OpenAudits.{HaveSlot, HaveTenants}
 
 -- ---- equal quotas
 
--- the first two numbers are equal, and so on
-abbrev two : Quota → Quota → Bool
-two a b = nat_eq a.versions b.versions && nat_eq a.bytes b.bytes
-
-abbrev three : Quota → Quota → Bool
-three a b = two a b && nat_eq a.outbox b.outbox
-
-abbrev four : Quota → Quota → Bool
-four a b = three a b && nat_eq a.contexts b.contexts
-
-abbrev five : Quota → Quota → Bool
-five a b = four a b && nat_eq a.deps b.deps
-
-abbrev six : Quota → Quota → Bool
-six a b = five a b && nat_eq a.actors b.actors
-
 quotas_are : (a b : Quota) → quota_eq a b ≡ true → a ≡ b
-quotas_are a b e =
-    let seven = both (six a b) (nat_eq a.audit b.audit) e in
-    let sixth = both (five a b) (nat_eq a.actors b.actors) seven.0 in
-    let fifth = both (four a b) (nat_eq a.deps b.deps) sixth.0 in
-    let fourth = both (three a b) (nat_eq a.contexts b.contexts) fifth.0 in
-    let third = both (two a b) (nat_eq a.outbox b.outbox) fourth.0 in
-    let first = both (nat_eq a.versions b.versions) (nat_eq a.bytes b.bytes) third.0 in
-    λ i. record {
-      versions = eqb-true a.versions b.versions first.0 i;
-      bytes = eqb-true a.bytes b.bytes first.1 i;
-      outbox = eqb-true a.outbox b.outbox third.1 i;
-      contexts = eqb-true a.contexts b.contexts fourth.1 i;
-      deps = eqb-true a.deps b.deps fifth.1 i;
-      actors = eqb-true a.actors b.actors sixth.1 i;
-      audit = eqb-true a.audit b.audit seven.1 i;
-    }
+quotas_are a b e = grind (arith, nat_tests)
 
 same_number : (n : ℕ) → nat_eq n n ≡ true
 same_number n = eq-eqb n n refl
@@ -57,10 +26,7 @@ quota_itself a = rw (same_number a.versions, same_number a.bytes, same_number a.
 -- ---- equal terms
 
 terms_are : (tenant : Tenant) (terms : Option Terms) → is_opened_as tenant terms ≡ true → terms ≡ Some (terms_of tenant)
-terms_are tenant None e = absurd cc
-terms_are tenant (Some terms) e =
-    let parts = both (nat_eq terms.first_clock tenant.first_clock) (quota_eq terms.quota tenant.quota) e in
-    λ i. Some (record { first_clock = eqb-true terms.first_clock tenant.first_clock parts.0 i; quota = quotas_are terms.quota tenant.quota parts.1 i })
+terms_are tenant terms h2 = grind (arith, nat_tests, both, eqb-true, quotas_are)
 
 opened_as_itself : (tenant : Tenant) → is_opened_as tenant (Some (terms_of tenant)) ≡ true
 opened_as_itself tenant = and (nat_eq tenant.first_clock tenant.first_clock) (quota_eq tenant.quota tenant.quota) (same_number tenant.first_clock) (quota_itself tenant.quota)
@@ -103,11 +69,7 @@ pub is_not : false ≡ true → ⊥
 is_not e = cc
 
 pub one_slot_more : (P : ℕ → Type 0) (n : ℕ) → ((slot : ℕ) → slot < n → P slot) → P n → (slot : ℕ) → slot < n + 1 → P slot
-one_slot_more P n before here slot below = by (nat_lt slot n) refl
-  where
-    by : (b : Bool) → nat_lt slot n ≡ b → P slot
-    by true e = before slot (let test = e in grind (arith, nat_tests))
-    by false e = (let later : n ≤ slot = (let test = e in grind (arith, nat_tests)) in let same : n ≡ slot = omega (arith, later, below) in subst P same here)
+one_slot_more P n before here slot below = grind (arith, nat_tests)
 
 within : (tenants : List (Option Tenant)) (slot : ℕ) (tenant : Tenant) → open_at slot tenants ≡ Some tenant → slot < length tenants
 within [] slot tenant e = absurd cc
@@ -116,10 +78,4 @@ within (t ∷ tenants) (suc slot) tenant e = let rest = within tenants slot tena
 
 -- each slot up to the last was looked at
 pub all_slots : (tenants : List (Option Tenant)) (nodes : List Shared) (n : ℕ) → length tenants ≤ n → ((slot : ℕ) → slot < n → HaveSlot tenants nodes slot) → HaveTenants tenants nodes
-all_slots tenants nodes n over each slot tenant e =
-    let inside = within tenants slot tenant e in
-    each slot (by (nat_lt slot n) refl inside) tenant e
-  where
-    by : (b : Bool) → nat_lt slot n ≡ b → slot < length tenants → slot < n
-    by true e below = (let test = e in grind (arith, nat_tests))
-    by false e below = (let later : n ≤ slot = (let test = e in grind (arith, nat_tests)) in absurd (omega (arith, over, later, below)))
+all_slots tenants nodes n over each slot tenant e = grind (arith, nat_tests, within)

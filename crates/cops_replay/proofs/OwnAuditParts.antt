@@ -1,6 +1,6 @@
 -- One tenant's part of the audit of a script is the one that is cut out of the whole.
-use Rattle.std.proofs.Common.{◌≡◌, ℕ, zero, suc, ◌+◌, ◌≤◌, Bool, true, false, true≢false, cond, List, [], ◌∷◌, ◌++◌, length, map, refl, sym, subst, ap, ◌∙◌, append-nil, arith}
-use Rattle.std.specs.Prelude.{IsTrue, Option, Some, None, flat_map, nat_le, slice_get, slice_index_or}
+use Rattle.std.proofs.Common.{◌≡◌, ℕ, zero, suc, ◌+◌, Bool, true, false, cond, List, [], ◌∷◌, ◌++◌, length, map, refl, sym, subst, ap, ◌∙◌, append-nil, arith}
+use Rattle.std.specs.Prelude.{Option, Some, None, flat_map, slice_get, slice_index_or}
 use Rattle.std.specs.List.{AllByRecursion}
 use Rattle.std.specs.Str.{bytes_eq}
 use Rattle.std.proofs.lemmas.Bool.Decides.{nat_tests}
@@ -23,22 +23,18 @@ use Rattle.cops_replay.specs.declared.layouts.Layout.TheVariants.{Today}
 use Rattle.cops_replay.specs.declared.Record.{Record}
 use Rattle.cops_replay.specs.declared.refusals.PartRefusal.{PartRefusal}
 use Rattle.cops_replay.specs.declared.refusals.PartRefusal.TheVariants.{BadConfig, UnknownTenant}
-use Rattle.cops_replay.specs.Audits.{records_of}
 use Rattle.cops_replay.specs.AuditRuns.{audit_after, audit_out}
-use Rattle.cops_replay.specs.AuditText.{audit_text, ended, records_text, tenants_text}
+use Rattle.cops_replay.specs.AuditText.{audit_text, ended, records_of, records_text, tenants_text}
 use Rattle.cops_replay.specs.OpenAudits.{left_config, left_nodes, open_tenants, slots_from, with_tenants}
 use Rattle.cops_replay.specs.OwnAudits.{IsOpenIn, IsOwnAudit, IsOwnAuditAfter, IsOwnAuditOf, RefusesOwnAuditAfter, RefusesOwnAuditOf, own_records, own_audit_text}
-use Rattle.cops_replay.specs.OwnLines.{alone_lines}
 use Rattle.cops_replay.specs.OwnParts.{IsPartBy, IsPartOf, RefusesPartBy, RefusesPartOf, layout_lines, lone_head_lines, part_text}
 use Rattle.cops_replay.specs.RecordText.{record_line}
-use Rattle.cops_replay.specs.ReplayParts.{seen_lines}
-use Rattle.cops_replay.specs.ReplayText.{HasLine, head_by, layout_of, longest_record}
+use Rattle.cops_replay.specs.ReplayText.{HasLine, alone_lines, head_by, layout_of, longest_record, seen_lines}
 use Rattle.cops_replay.specs.WrittenAudits.{AreFormed, AreFormedFor, his_records}
 use Rattle.cops_replay.proofs.AuditLines.{head_known, named_at}
 use Rattle.cops_replay.proofs.HeadsBack.{written_head}
 use Rattle.cops_replay.proofs.HeadTexts.{head_text_is, text_is_todays, text_reads_back}
 use Rattle.cops_replay.proofs.OpenHeads.{open_head}
-use Rattle.cops_replay.proofs.OneAnswer.{same_tenant}
 use Rattle.cops_replay.proofs.ShortLines.{lines_at}
 use Rattle.cops_replay.proofs.WrittenAudits.{his_lines, same_text}
 use Rattle.cops_replay.proofs.LineLengths.{at_most}
@@ -75,9 +71,7 @@ none_named n (Some first ∷ tenants) name place tenant e at = by (bytes_eq firs
 
 -- who is open in the slot of a name
 pub open_found : (tenants : List (Option Tenant)) (name : List ℕ) (slot : ℕ) → open_slot_of_name tenants name ≡ Some slot → (tenant : Tenant) × (open_at slot tenants ≡ Some tenant)
-open_found tenants name slot e =
-    let (place, tenant, listed, placed, named) = found_from 0 tenants name slot e in
-    (tenant, ap (λ n. open_at n tenants) (sym placed) ∙ open_there tenants place tenant listed)
+open_found tenants name slot e = grind (arith, nat_tests, found_from, open_there)
 
 -- ---- texts
 
@@ -159,13 +153,7 @@ module _ (read rest : List (List ℕ)) (config : Config) (head : head_of read �
       })
 
   unknown : (name : List ℕ) → open_slot_of_name slots name ≡ None → slot_of_name left.tenants name ≡ None
-  unknown name none = by (slot_of_name left.tenants name) refl
-    where
-      by : (o : Option ℕ) → slot_of_name left.tenants name ≡ o → o ≡ None
-      by None e = refl
-      by (Some place) e =
-          let found = found_at left.tenants name place e in
-          absurd (true≢false (sym found.2 ∙ none_named 0 slots name place found.0 none found.1))
+  unknown name none = grind (arith, nat_tests, found_at, none_named)
 
   not_open : (name : List ℕ) → slot_of_name left.tenants name ≡ None → open_slot_of_name slots name ≡ None
   not_open name none = by (open_slot_of_name slots name) refl
@@ -183,11 +171,7 @@ module _ (read rest : List (List ℕ)) (config : Config) (head : head_of read �
   refused_whole name UnknownTenant none = (left, lines_of text, reads, unknown name none)
 
   refused_own : (name : List ℕ) (refusal : PartRefusal) → RefusesPartBy Today name (lines_of (audit_text left nodes)) refusal → RefusesOwnAuditAfter (Whole config rest) name refusal
-  refused_own name (BadConfig bad) none = absurd (let e : BadAt bad.line ≡ Whole left (lines_of text) = sym none ∙ reads in let no : ⊥ = cc in no)
-  refused_own name UnknownTenant (found, records, is, none) =
-      let e : Whole found records ≡ Whole left (lines_of text) = sym is ∙ reads in
-      let same : found ≡ left = cc in
-      not_open name (ap (λ (c : Config). slot_of_name c.tenants name) (sym same) ∙ none)
+  refused_own name refusal h2 = grind (arith, nat_tests, not_open, reads)
 
 -- ---- of the bytes of a script
 
@@ -219,9 +203,7 @@ own_refused_alike name bytes text refusal is = refused_by (lines_of bytes) (head
 -- ---- a file has one part for a name
 
 one_by : (layout : Layout) (name : List ℕ) (lines : List (List ℕ)) (part other : List ℕ) → IsPartBy layout name lines part → IsPartBy layout name lines other → part ≡ other
-one_by layout name lines part other p q =
-    let same = same_tenant name layout lines p.audit q.audit in
-    p.text_is ∙ (λ i. part_text layout (same.config i) (same.tenant i) (seen_lines name (same.records i))) ∙ sym q.text_is
+one_by layout name lines part other p q = grind (arith, nat_tests)
 
 pub one_part : (name text part other : List ℕ) → IsPartOf name text part → IsPartOf name text other → part ≡ other
 one_part name text part other p q = one_by (layout_of (lines_of text)) name (lines_of text) part other p q

@@ -1,12 +1,12 @@
 -- The audit of one slot of a script's world is the part of the tenant who is open there.
-use Rattle.std.proofs.lemmas.Result.{on_ok_weaker, IfErr-weaker}
+use Rattle.std.proofs.lemmas.Result.{IfErr-weaker}
 use Rattle.std.proofs.Common.{◌≡◌, ℕ, zero, suc, List, [], ◌∷◌, length, inl, inr, refl, sym, subst, ap, ◌∙◌}
-use Rattle.std.specs.Prelude.{Option, Some, None, IfErr, IfSome, OnErr, OnOk, Result, Ok, Err, is_some, slice_get, slice_index_or}
+use Rattle.std.specs.Prelude.{Option, Some, None, IfErr, IfSome, OnOk, Result, Ok, Err, is_some, slice_get, slice_index_or}
 use Rattle.std.specs.List.{AllByRecursion}
 use Rattle.std.specs.Io.KnownBytes.{Keeps}
 use Rattle.cops_types.specs.declared.configs.Config.{Config}
 use Rattle.cops_types.specs.declared.configs.Tenant.{Tenant}
-use Rattle.cops_types.specs.Head.{HeadReading, Whole, BadAt, head_of}
+use Rattle.cops_types.specs.Head.{Whole, BadAt, head_of}
 use Rattle.cops_types.specs.Lines.{lines_of}
 use Rattle.cops_types.specs.OpenSlots.{open_at, open_slot_of_name}
 use Rattle.cops_types.specs.TenantConfig.{TenantConfig, tenant_config}
@@ -14,9 +14,8 @@ use Rattle.cops_types.proofs.WordLemmas.{same_value}
 use Rattle.cops_node.specs.Clusters.{HasTenant, IsCluster, nodes_of, shape_of}
 use Rattle.cops_node.specs.Parts.{Shared}
 use Rattle.cops_model.specs.Setups.{Setup, config_of, is_open_at}
-use Rattle.cops_model.specs.SoloNode.{SoloNode}
 use Rattle.cops_script.specs.declared.line_runs.fault.RunFault.{RunFault}
-use Rattle.cops_script.specs.declared.line_runs.fault.RunFault.TheVariants.{Refused, OutOfMemory, ReadFault, WriteFault}
+use Rattle.cops_script.specs.declared.line_runs.fault.RunFault.TheVariants.{Refused}
 use Rattle.cops_script.specs.declared.scripts.BadConfig.{BadConfig as BadHead}
 use Rattle.cops_script.specs.LineRuns.{IfRunRefused}
 use Rattle.cops_script.specs.ScriptWorlds.{IsLeftBy, cluster_left, life_left, setup_left}
@@ -25,17 +24,15 @@ use Rattle.cops_replay.specs.declared.Record.{Record}
 use Rattle.cops_replay.specs.declared.Replayed.TheVariants.{Same}
 use Rattle.cops_replay.specs.declared.refusals.PartRefusal.{PartRefusal}
 use Rattle.cops_replay.specs.declared.refusals.PartRefusal.TheVariants.{BadConfig}
-use Rattle.cops_replay.specs.Audits.{HasShape, ReplaysSame, records_of}
-use Rattle.cops_replay.specs.AuditRuns.{HasItsTenants, open_config, open_nodes}
-use Rattle.cops_replay.specs.AuditText.{audit_text}
+use Rattle.cops_replay.specs.AuditRuns.{HasItsTenants}
+use Rattle.cops_replay.specs.AuditText.{HasShape, ReplaysSame, records_of}
 use Rattle.cops_replay.specs.OpenAudits.{AreNodesAt, left_config, left_nodes, nodes_at, with_tenants}
 use Rattle.cops_replay.specs.OwnAudits.{IsOpenAt, IsOpenIn, IsOwnAudit, IsOwnAuditAfter, IsOwnAuditOf, IsSlotFormed, LacksTenant, RefusesOwnAuditAfter, RefusesOwnAuditOf, SaysSameOwn, WritesOwnAudit, WritesOwnAuditFront, WritesSlot, WritesSlotFront, as_part_fault, own_records, own_audit_text, slot_audit}
 use Rattle.cops_replay.specs.ReplayText.{HasLine, IsReplayOf, replayed_text}
-use Rattle.cops_replay.specs.WrittenAudits.{AreFormed, AreFormedFor, HaveLines, his_records}
-use Rattle.cops_replay.proofs.AuditRunLemmas.{formed_for}
+use Rattle.cops_replay.specs.WrittenAudits.{HaveLines, his_records}
 use Rattle.cops_replay.proofs.HeadsBack.{written_head}
 use Rattle.cops_replay.proofs.OpenHeads.{lone_head}
-use Rattle.cops_replay.proofs.OwnAuditParts.{has_place, open_found, own_audit_text_is}
+use Rattle.cops_replay.proofs.OwnAuditParts.{has_place, own_audit_text_is}
 use Rattle.cops_replay.proofs.FileRuns.{kept}
 use Rattle.cops_replay.proofs.ShortLines.{lines_at}
 use Rattle.cops_replay.proofs.WrittenAudits.{says_same}
@@ -208,24 +205,3 @@ nothing_kept contents why = tt
 pub no_own_front : (name : List ℕ) (known contents : Option (List ℕ)) → IfSome known (λ bytes. WritesOwnAuditFront name bytes contents contents)
 no_own_front name None contents = tt
 no_own_front name (Some bytes) contents = inl (kept contents)
-
--- a read fault, or a write fault, was one of the script
-read_is : (fault : RunFault BadHead) → as_part_fault fault ≡ ReadFault → fault ≡ ReadFault
-read_is ReadFault e = refl
-read_is fault e = absurd (let no : ⊥ = cc in no)
-
-write_is : (fault : RunFault BadHead) → as_part_fault fault ≡ WriteFault → fault ≡ WriteFault
-write_is WriteFault e = refl
-write_is fault e = absurd (let no : ⊥ = cc in no)
-
-abbrev pub failed : RunFault PartRefusal → Result (Unit {0}) (RunFault PartRefusal)
-failed why = Err why
-
-same_fault : (one other : RunFault PartRefusal) → failed one ≡ failed other → one ≡ other
-same_fault one other e = cc
-
-pub was_read : (fault : RunFault BadHead) (why : RunFault PartRefusal) → why ≡ as_part_fault fault → failed why ≡ failed ReadFault → fault ≡ ReadFault
-was_read fault why is e = read_is fault (sym is ∙ same_fault why ReadFault e)
-
-pub was_write : (fault : RunFault BadHead) (why : RunFault PartRefusal) → why ≡ as_part_fault fault → failed why ≡ failed WriteFault → fault ≡ WriteFault
-was_write fault why is e = write_is fault (sym is ∙ same_fault why WriteFault e)

@@ -1,14 +1,15 @@
 -- Text that is put, piece by piece.
-use Rattle.std.proofs.Common.{◌≡◌, ℕ, List, [], ◌++◌, Option, Result, Ok, Err, refl, sym, subst, ap, ◌∙◌, append_assoc, append-nil}
-use Rattle.std.specs.Prelude.{IfErr, OnErr}
+use Rattle.std.proofs.Common.{◌≡◌, ℕ, List, [], ◌++◌, Option, Result, Ok, Err, refl, sym, subst, ap, ◌∙◌, append_assoc, append-nil, arith}
+use Rattle.std.specs.Prelude.{IfErr}
 use Rattle.std.specs.Io.KnownBytes.{Appends}
 use Rattle.std.proofs.KnownBytes.{Appends-nil, Appends-trans}
+use Rattle.std.proofs.lemmas.Bool.Decides.{nat_tests}
 use Rattle.cops_types.specs.declared.request_errors.RequestError.{RequestError}
 use Rattle.cops_types.specs.declared.faults.Fault.TheVariants.{WriteFault}
 use Rattle.cops_types.specs.declared.request_errors.RequestError.TheVariants.{OutOfMemory, Refused}
 use Rattle.cops_types.specs.Counts.{HasRisen}
 use Rattle.cops_types.specs.RequestErrors.{IfRefusal, OnRefusal}
-use Rattle.cops_types.specs.Sink.{AppendsAllBut, AppendsFront}
+use Rattle.cops_types.specs.Sink.{AppendsFront}
 use Rattle.cops_script.proofs.KnownLemmas.{AppendsFront-more}
 use Rattle.cops_replay.specs.Pages.{FailsBy, Page, PutsText, page}
 
@@ -19,16 +20,6 @@ front_of_none contents text = (text, record { written = []; whole = refl; append
 -- memory was refused before anything was written
 pub Puts-lack : (text waiting other : List ℕ) (contents : Option (List ℕ)) (failures : ℕ) → PutsText {T = Unit {0}} text (page waiting contents failures) (Err OutOfMemory) (page other contents failures)
 Puts-lack text waiting other contents failures = (front_of_none contents (waiting ++ text), tt)
-
--- the text was put after what waited, and what came then
-pub Puts-pushed : (text more waiting now : List ℕ) (contents : Option (List ℕ)) (failures : ℕ) (r : Result (Unit {0}) RequestError) (new : Page) → now ≡ waiting ++ text →
-    PutsText {T = Unit {0}} more (page now contents failures) r new → PutsText {T = Unit {0}} (text ++ more) (page waiting contents failures) r new
-Puts-pushed text more waiting now contents failures (Ok done) new e p =
-    let all : now ++ more ≡ waiting ++ (text ++ more) = ap (λ l. l ++ more) e ∙ append_assoc waiting text more in
-    (subst (λ l. AppendsAllBut contents new.contents l new.waiting) all p.0, p.1)
-Puts-pushed text more waiting now contents failures (Err error) new e p =
-    let all : now ++ more ≡ waiting ++ (text ++ more) = ap (λ l. l ++ more) e ∙ append_assoc waiting text more in
-    (subst (AppendsFront contents new.contents) all p.0, p.1)
 
 -- one text after another
 pub Puts-then : (first text : List ℕ) (old mid : Page) (done : Unit {0}) (r : Result (Unit {0}) RequestError) (new : Page) → PutsText {T = Unit {0}} first old (Ok done) mid → PutsText {T = Unit {0}} text mid r new → PutsText {T = Unit {0}} (first ++ text) old r new
@@ -61,41 +52,48 @@ Puts-more text more old error new p = (
   p.1,
 )
 
--- the next text ended early, and the whole has more after it
-pub Puts-ends : (first text more whole : List ℕ) (old mid : Page) (done : Unit {0}) (error : RequestError) (new : Page) → whole ≡ first ++ (text ++ more) →
-    PutsText {T = Unit {0}} first old (Ok done) mid → PutsText {T = Unit {0}} text mid (Err error) new → PutsText {T = Unit {0}} whole old (Err error) new
-Puts-ends first text more whole old mid done error new e p q =
-    subst (λ l. PutsText {T = Unit {0}} l old (Err error) new) (append_assoc first text more ∙ sym e)
-    (Puts-more (first ++ text) more old error new (Puts-then first text old mid done (Err error) new p q))
+-- of the whole text this is left to put
+pub record IsLeft (whole left : List ℕ) (old new : Page) : Type 0 where
+  pub done : List ℕ
+  pub whole_is : done ++ left ≡ whole
+  pub put : PutsText {T = Unit {0}} done old (Ok tt) new
 
--- a line that was put, and what is written then
-pub Puts-line : (text waiting now : List ℕ) (contents : Option (List ℕ)) (failures : ℕ) (r : Result (Unit {0}) RequestError) (new : Page) → now ≡ waiting ++ text →
-    PutsText {T = Unit {0}} [] (page now contents failures) r new → PutsText {T = Unit {0}} text (page waiting contents failures) r new
-Puts-line text waiting now contents failures r new e p =
-    subst (λ l. PutsText {T = Unit {0}} l (page waiting contents failures) r new) (append-nil text) (Puts-pushed text [] waiting now contents failures r new e p)
+pub all_left : (whole : List ℕ) (old : Page) → IsLeft whole whole old old
+all_left whole old = record { done = []; whole_is = refl; put = (record { written = []; whole = append-nil old.waiting; appended = Appends-nil old.contents }, refl) }
 
--- if nothing waited, a prefix of it is one of what goes on from it
-pub front_of_put : (text more waiting : List ℕ) (old_contents : Option (List ℕ)) (failures : ℕ) (error : RequestError) (new : Page) → waiting ≡ [] →
-    PutsText {T = Unit {0}} text (page waiting old_contents failures) (Err error) new → AppendsFront old_contents new.contents (text ++ more)
-front_of_put text more waiting old_contents failures error new none p =
-    AppendsFront-more old_contents new.contents text more (subst (λ l. AppendsFront old_contents new.contents (l ++ text)) none p.0)
+-- one more piece was put
+pub less_left : (whole piece more left : List ℕ) (old mid new : Page) → left ≡ piece ++ more → IsLeft whole left old mid → PutsText {T = Unit {0}} piece mid (Ok tt) new → IsLeft whole more old new
+less_left whole piece more left old mid new e p q = record {
+  done = p.done ++ piece;
+  whole_is = append_assoc p.done piece more ∙ ap (λ l. p.done ++ l) (sym e) ∙ p.whole_is;
+  put = Puts-then p.done piece old mid tt (Ok tt) new p.put q;
+}
+
+-- the next piece ended early
+pub left_early : (whole piece more left : List ℕ) (old mid : Page) (error : RequestError) (new : Page) → left ≡ piece ++ more → IsLeft whole left old mid → PutsText {T = Unit {0}} piece mid (Err error) new →
+    PutsText {T = Unit {0}} whole old (Err error) new
+left_early whole piece more left old mid error new e p q =
+    subst (λ l. PutsText {T = Unit {0}} l old (Err error) new) (append_assoc p.done piece more ∙ ap (λ l. p.done ++ l) (sym e) ∙ p.whole_is)
+    (Puts-more (p.done ++ piece) more old error new (Puts-then p.done piece old mid tt (Err error) new p.put q))
+
+pub none_left : (whole left : List ℕ) (old new : Page) → left ≡ [] → IsLeft whole left old new → PutsText {T = Unit {0}} whole old (Ok tt) new
+none_left whole left old new e p = subst (λ l. PutsText {T = Unit {0}} l old (Ok tt) new) (sym (append-nil p.done) ∙ ap (λ l. p.done ++ l) (sym e) ∙ p.whole_is) p.put
+
+-- ---- text that was put after text that waited
+
+pub front_of_put : (first text waiting : List ℕ) (old_contents : Option (List ℕ)) (failures : ℕ) (error : RequestError) (new : Page) → waiting ≡ first →
+    PutsText {T = Unit {0}} text (page waiting old_contents failures) (Err error) new → AppendsFront old_contents new.contents (first ++ text)
+front_of_put first text waiting old_contents failures error new e p = subst (λ l. AppendsFront old_contents new.contents (l ++ text)) e p.0
 
 -- all of it is written at last, or a front
-pub whole_put : (text waiting : List ℕ) (old_contents new_contents : Option (List ℕ)) (failures : ℕ) (done : Unit {0}) (mid : Page) → waiting ≡ [] →
-    PutsText {T = Unit {0}} text (page waiting old_contents failures) (Ok done) mid → Appends mid.contents new_contents mid.waiting → Appends old_contents new_contents text
-whole_put text waiting old_contents new_contents failures done mid none p q =
-    subst (Appends old_contents new_contents) (sym p.0.whole ∙ ap (λ l. l ++ text) none) (Appends-trans old_contents mid.contents new_contents p.0.written mid.waiting p.0.appended q)
+pub whole_put : (first text waiting : List ℕ) (old_contents new_contents : Option (List ℕ)) (failures : ℕ) (mid : Page) → waiting ≡ first →
+    PutsText {T = Unit {0}} text (page waiting old_contents failures) (Ok tt) mid → Appends mid.contents new_contents mid.waiting → Appends old_contents new_contents (first ++ text)
+whole_put first text waiting old_contents new_contents failures mid e p q =
+    subst (Appends old_contents new_contents) (sym p.0.whole ∙ ap (λ l. l ++ text) e) (Appends-trans old_contents mid.contents new_contents p.0.written mid.waiting p.0.appended q)
 
-pub front_put : (text waiting : List ℕ) (old_contents new_contents : Option (List ℕ)) (failures : ℕ) (done : Unit {0}) (mid : Page) → waiting ≡ [] →
-    PutsText {T = Unit {0}} text (page waiting old_contents failures) (Ok done) mid → AppendsFront mid.contents new_contents mid.waiting → AppendsFront old_contents new_contents text
-front_put text waiting old_contents new_contents failures done mid none p (rest, q) = (
-  rest,
-  record {
-    written = p.0.written ++ q.written;
-    whole = ap (λ l. l ++ text) (sym none) ∙ p.0.whole ∙ ap (λ l. p.0.written ++ l) q.whole ∙ sym (append_assoc p.0.written q.written rest);
-    appended = Appends-trans old_contents mid.contents new_contents p.0.written q.written p.0.appended q.appended;
-  },
-)
+pub front_put : (first text waiting : List ℕ) (old_contents new_contents : Option (List ℕ)) (failures : ℕ) (mid : Page) → waiting ≡ first →
+    PutsText {T = Unit {0}} text (page waiting old_contents failures) (Ok tt) mid → AppendsFront mid.contents new_contents mid.waiting → AppendsFront old_contents new_contents (first ++ text)
+front_put first text waiting old_contents new_contents failures mid h7 h8 h9 = grind (arith, nat_tests, append_assoc)
 
 -- ---- why the writing failed
 
@@ -108,6 +106,4 @@ risen_by OutOfMemory old new h = tt
 risen_by (Refused fault) old new h = h.1
 
 pub failed_at_last : (r : Result (Unit {0}) RequestError) → IfErr r (λ error. error ≡ Refused WriteFault) → IfRefusal r (λ fault. fault ≡ WriteFault)
-failed_at_last (Ok done) h = tt
-failed_at_last (Err OutOfMemory) h = tt
-failed_at_last (Err (Refused fault)) h = cc
+failed_at_last r h1 = grind (arith, nat_tests)

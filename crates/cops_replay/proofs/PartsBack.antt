@@ -1,36 +1,31 @@
 -- A tenant's own part of an audit is an audit of the same layout, with the same part.
-use Rattle.std.proofs.Common.{◌≡◌, ℕ, zero, suc, ◌+◌, ◌<◌, ◌≤◌, ◌^◌, Bool, true, false, cond, inl, inr, ◌⊎◌, List, [], ◌∷◌, ◌++◌, length, map, take, refl, sym, subst, ap, ◌∙◌, arith}
-use Rattle.std.specs.Prelude.{IsTrue, Option, Some, None, flat_map, slice_get}
+use Rattle.std.proofs.Common.{◌≡◌, ℕ, zero, suc, ◌+◌, ◌≤◌, Bool, true, false, cond, inl, inr, List, [], ◌∷◌, ◌++◌, length, map, take, refl, sym, subst, ap, ◌∙◌, arith}
+use Rattle.std.specs.Prelude.{Some}
 use Rattle.std.specs.List.{AllByRecursion}
 use Rattle.std.specs.Option.{option_and_then}
 use Rattle.std.specs.Str.{bytes_eq}
 use Rattle.std.proofs.lemmas.List.{take_all, length-take}
+use Rattle.std.proofs.lemmas.Bool.Decides.{nat_tests}
 use Rattle.cops_types.specs.declared.configs.Config.{Config}
 use Rattle.cops_types.specs.declared.configs.Tenant.{Tenant}
-use Rattle.cops_types.specs.Head.{Front, AtStart, Within, Begun, Ends, Joins, Whole, BadAt, head_with, is_begun, with_tenant}
-use Rattle.cops_types.specs.HeadLines.{IsClusterLine, are_sizes, begin_line, cluster_line, is_tenant_to, tenant_in_to}
+use Rattle.cops_types.specs.Head.{Front, AtStart, Within, Begun, Whole, head_with}
+use Rattle.cops_types.specs.HeadLines.{begin_line, cluster_line, tenant_in_to}
 use Rattle.cops_types.specs.Lines.{cut_line, lines_of}
-use Rattle.cops_types.specs.OldHead.{last_old_clock}
 use Rattle.cops_types.specs.Slots.{slot_of_name}
 use Rattle.cops_types.specs.TenantConfig.{tenant_config}
-use Rattle.cops_types.specs.Version.{last_clock}
 use Rattle.cops_types.specs.Words.{first_word, newline}
-use Rattle.cops_types.proofs.FrontLemmas.{front_after-is}
 use Rattle.cops_types.proofs.HeadLemmas.{tenant_fits, tenant_in_to-finds}
 use Rattle.cops_types.proofs.WordLemmas.{Lacks, bytes_from_test, lacks_from_test, same_bytes, same_value}
-use Rattle.cops_types.proofs.Elements.{Every-append}
 use Rattle.cops_model.specs.MainTheorem.{with_tenant_alone}
 use Rattle.cops_script.proofs.ApartTenants.{found_at, short_name}
 use Rattle.cops_replay.specs.declared.layouts.Layout.{Layout}
 use Rattle.cops_replay.specs.declared.layouts.Layout.TheVariants.{Today, Early}
 use Rattle.cops_replay.specs.declared.refusals.ReplayRefusal.{ReplayRefusal}
-use Rattle.cops_replay.specs.AuditText.{ended, layout_line}
+use Rattle.cops_replay.specs.AuditText.{layout_line}
 use Rattle.cops_replay.specs.OpenAudits.{with_tenants}
-use Rattle.cops_replay.specs.OwnLines.{alone_lines}
 use Rattle.cops_replay.specs.OwnParts.{IsPartOf, layout_lines, lone_head_lines}
-use Rattle.cops_replay.specs.ReplayParts.{HasPart, seen_lines}
 use Rattle.cops_replay.specs.FileHeads.{front_by}
-use Rattle.cops_replay.specs.ReplayText.{IsReplayOf, RefusesReplayOf, head_by, layout_of, longest_record}
+use Rattle.cops_replay.specs.ReplayText.{HasPart, IsReplayOf, RefusesReplayOf, alone_lines, head_by, layout_of, longest_record, seen_lines}
 use Rattle.cops_replay.proofs.AuditHeads.{follows_by, head_holds, last_in, last_small, read_once, read_whole, reading_by}
 use Rattle.cops_replay.proofs.HeadsBack.{IsFit, IsOfHead, StandsIn, cluster_lacks, follows_stands, lines_of-lack, lines_of-lines, lines_of-more, tenant_lacks, tenant_written, written_tenant}
 use Rattle.cops_replay.proofs.OldFronts.{FollowsTo}
@@ -170,9 +165,7 @@ module _ (name bytes part : List ℕ) (p : IsPartOf name bytes part) where
       subst (λ n. length n ≤ 16) (bytes_from_test p.audit.tenant.name name named) (short_name p.audit.tenant.name fits.name)
 
   part_lines : lines_of part ≡ (layout_lines layout ++ lone_head_lines p.audit.config p.audit.tenant) ++ own
-  part_lines =
-      ap lines_of p.text_is ∙ lines_of-more (layout_lines layout ++ lone_head_lines p.audit.config p.audit.tenant) (flat_map ended own) (head_lacks layout p.audit.config p.audit.tenant good.0 its)
-      ∙ ap (λ lines. (layout_lines layout ++ lone_head_lines p.audit.config p.audit.tenant) ++ lines) (lines_of-lines own (seen_lack name p.audit.records good.1))
+  part_lines = grind (arith, nat_tests, good, head_lacks, its, lines_of-lines, lines_of-more, seen_lack)
 
   of_file : HasPart name bytes layout (tenant_config p.audit.config p.audit.tenant) own
   of_file = record { layout_is = refl; audit = p.audit; config_is = refl; own_is = refl }

@@ -1,15 +1,49 @@
--- Texts of records that are put at a place.
-use Rattle.std.proofs.Common.{◌≡◌, ℕ, ◌+◌, ◌<◌, ◌/◌, ◌%◌, List, [], ◌∷◌, ◌++◌, length, take, get_or, sym, ap, ◌∙◌, append_assoc}
-use Rattle.std.specs.Prelude.{codes, decimal}
-use Rattle.std.proofs.lemmas.Grind.{flat_map-append}
-use Rattle.std.proofs.lemmas.List.{take_more}
-use Rattle.std.proofs.Math.Seq.{take-append_seam}
-use Rattle.cops_types.specs.Words.{space, spaced}
+-- The text of a record in parts, and texts of records that are put at a place.
+use Rattle.std.proofs.Common.{◌≡◌, ℕ, not, List, [], ◌∷◌, ◌++◌, refl, sym, ap, ◌∙◌, append_assoc, arith}
+use Rattle.std.specs.Prelude.{IsTrue, codes, decimal}
+use Rattle.std.proofs.lemmas.Bool.Decides.{nat_tests}
+use Rattle.cops_types.specs.Words.{no_words, space, spaced}
+use Rattle.cops_model.specs.declared.calls.NodeCall.{NodeCall}
+use Rattle.cops_model.specs.declared.calls.NodeCall.TheVariants.{Get}
+use Rattle.cops_model.specs.declared.calls.NodeReply.{NodeReply}
+use Rattle.cops_model.specs.declared.calls.NodeReply.TheVariants.{Found}
 use Rattle.cops_model.specs.declared.calls.NodeId.{NodeId}
 use Rattle.cops_replay.specs.declared.Record.{Record}
+use Rattle.cops_replay.specs.RecordText.{call_words, reply_words, node_text, record_line}
 use Rattle.cops_replay.specs.Room.{front_text}
-use Rattle.cops_replay.specs.RecordText.{byte_text, bytes_text, call_words, digit_text, node_text, record_line, reply_words}
-use Rattle.cops_replay.proofs.RecordTexts.{line_in_parts}
+
+abbrev pub HasWords : List (List ℕ) → Type 0
+HasWords words = IsTrue (not (no_words words))
+
+pub spaced_more : (word : List ℕ) (words : List (List ℕ)) → HasWords words → spaced (word ∷ words) ≡ word ++ space ∷ spaced words
+spaced_more word [] h = absurd cc
+spaced_more word (next ∷ words) h = refl
+
+pub spaced_two : (words more : List (List ℕ)) → HasWords words → HasWords more → spaced (words ++ more) ≡ spaced words ++ space ∷ spaced more
+spaced_two [] more h k = absurd cc
+spaced_two (word ∷ []) more h k = spaced_more word more k
+spaced_two (word ∷ next ∷ words) more h k =
+    ap (λ text. word ++ space ∷ text) (spaced_two (next ∷ words) more refl k) ∙ sym (append_assoc word (space ∷ spaced (next ∷ words)) (space ∷ spaced more))
+
+pub call_begins : (call : NodeCall) → HasWords (call_words call)
+call_begins (Get key wanted) = refl
+call_begins call = refl
+
+pub reply_begins : (reply : NodeReply) → HasWords (reply_words reply)
+reply_begins (Found f) = refl
+reply_begins reply = refl
+
+pub more_begin : (words more : List (List ℕ)) → HasWords words → HasWords (words ++ more)
+more_begin [] more h = absurd cc
+more_begin (word ∷ words) more h = refl
+
+-- five texts with what stands between them
+abbrev in_parts : List ℕ → List ℕ → List ℕ → List ℕ → List ℕ → List ℕ
+in_parts tenant node moment call reply = tenant ++ (space ∷ (node ++ (space ∷ (moment ++ (space ∷ (call ++ (codes " = " ++ reply)))))))
+
+-- the line, part by part
+pub line_in_parts : (tenant : List ℕ) (told : Record) → record_line tenant told ≡ in_parts tenant (node_text told.node) (decimal told.moment) (spaced (call_words told.call)) (spaced (reply_words told.reply))
+line_in_parts tenant told = grind (arith, nat_tests, call_begins, more_begin, reply_begins, spaced_more, spaced_two)
 
 -- an entry, part by part
 pub entry_placed : (out o1 o2 o3 o4 o5 o6 o7 key version value deps near prev : List ℕ) → o1 ≡ out ++ key → o2 ≡ o1 ++ space ∷ [] → o3 ≡ o2 ++ version → o4 ≡ o3 ++ space ∷ [] → o5 ≡ o4 ++ (value ++ (space ∷ (deps ++ (space ∷ near)))) → o6 ≡ o5 ++ space ∷ [] → o7 ≡ o6 ++ prev
@@ -29,6 +63,4 @@ joined_parts out o1 o2 o3 o4 name node moment call reply e1 e2 e3 e4 = rw e4 (rw
 -- the line, part by part
 pub line_placed : (out tenant : List ℕ) (told : Record) (o1 o2 o3 o4 : List ℕ) → o1 ≡ out ++ front_text tenant told.node told.moment → o2 ≡ o1 ++ spaced (call_words told.call) → o3 ≡ o2 ++ codes " = " → o4 ≡ o3 ++ spaced (reply_words told.reply)
     → o4 ≡ out ++ record_line tenant told
-line_placed out tenant told o1 o2 o3 o4 e1 e2 e3 e4 =
-    joined_parts out o1 o2 o3 o4 tenant (node_text told.node) (decimal told.moment) (spaced (call_words told.call)) (spaced (reply_words told.reply)) e1 e2 e3 e4
-    ∙ ap (λ l. out ++ l) (sym (line_in_parts tenant told))
+line_placed out tenant told o1 o2 o3 o4 e1 e2 e3 e4 = grind (arith, nat_tests, joined_parts, line_in_parts)

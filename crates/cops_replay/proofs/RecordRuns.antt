@@ -18,15 +18,13 @@ use Rattle.cops_replay.specs.declared.layouts.Layout.{Layout}
 use Rattle.cops_replay.specs.declared.layouts.Layout.TheVariants.{Today, Early}
 use Rattle.cops_replay.specs.declared.Record.{Record}
 use Rattle.cops_replay.specs.declared.Replayed.{Replayed}
-use Rattle.cops_replay.specs.declared.Replayed.TheVariants.{Same, FirstDifference}
+use Rattle.cops_replay.specs.declared.Replayed.TheVariants.{FirstDifference}
 use Rattle.cops_replay.specs.OldRecords.{is_old_record, old_record_in, versions_in}
-use Rattle.cops_replay.specs.OwnLines.{alone_lines}
 use Rattle.cops_replay.specs.RecordLines.{record_by}
 use Rattle.cops_replay.specs.Replaying.{nodes_after}
-use Rattle.cops_replay.specs.Replayings.{Differs, IsReplayedLine, Passes, Standing, found_of, found_so_far}
+use Rattle.cops_replay.specs.Replayings.{AreLoneNodes, Differs, IsReplayedLine, Passes, Standing, found_of}
 use Rattle.cops_replay.specs.ReplayRules.{ReplaysOwn, replay_lines}
-use Rattle.cops_replay.specs.ReplayText.{FindsBy, is_great_in, longest_record, replayed_text, told_number, told_of}
-use Rattle.cops_replay.specs.Replays.{AreLoneNodes}
+use Rattle.cops_replay.specs.ReplayText.{FindsBy, alone_lines, is_great_in, longest_record, replayed_text, told_number, told_of}
 use Rattle.cops_replay.proofs.AuditHeads.{by_test}
 
 -- ---- lines, as they are cut
@@ -75,14 +73,7 @@ pub record Tells (layout : Layout) (config : TenantConfig) (old : Standing) (lin
       (found : Replayed) × FindsBy layout Today config count solos lines found × TellsAs (found_of new) found
 
 tells_none : (layout : Layout) (config : TenantConfig) (old : Standing) → Tells layout config old [] old
-tells_none layout config old = record {
-  over = λ place e. ap (found_so_far old.passed) e;
-  goes = λ count solos at passed none are. (
-    Same count,
-    refl,
-    ap replayed_text (ap (found_so_far old.passed) none) ∙ ap (λ n. codes "same " ++ decimal n ++ newline ∷ []) (ap told_number passed ∙ same_told count),
-  );
-}
+tells_none layout config old = grind (arith, nat_tests)
 
 tells_line : (layout : Layout) (config : TenantConfig) (line : List ℕ) (lines : List (List ℕ)) (old mid new : Standing) → IsReplayedLine (cut_line longest_record line) old mid → Tells layout config mid lines new → Tells layout config old (line ∷ lines) new
 tells_line layout config line lines old mid new h p = record {

@@ -19,17 +19,16 @@ use Rattle.cops_script.specs.LineRuns.{AnswersAll, IfRunRefused, StopsEarly}
 use Rattle.cops_script.proofs.KnownLemmas.{AppendsFront-nil}
 use Rattle.cops_replay.specs.declared.audit_machine.AuditMachine.{AuditMachine}
 use Rattle.cops_replay.specs.declared.layouts.Layout.{Layout}
-use Rattle.cops_replay.specs.declared.layouts.Layout.TheVariants.{Today, Early}
+use Rattle.cops_replay.specs.declared.layouts.Layout.TheVariants.{Early}
 use Rattle.cops_replay.specs.declared.refusals.ReplayRefusal.{ReplayRefusal}
 use Rattle.cops_replay.specs.declared.refusals.ReplayRefusal.TheVariants.{BadConfig, UnknownTenant, ClockTooGreat}
 use Rattle.cops_replay.specs.declared.replay_machine.ReplaysOf.{ReplaysOf}
 use Rattle.cops_replay.specs.declared.Replayed.{Replayed}
 use Rattle.cops_replay.specs.AuditFiles.{IsAtHead, audit_rules}
-use Rattle.cops_replay.specs.OwnLines.{alone_lines}
 use Rattle.cops_replay.specs.Replaying.{fresh_nodes}
 use Rattle.cops_replay.specs.Replayings.{Standing, found_of}
 use Rattle.cops_replay.specs.ReplayRules.{IsNotBegun, RefusesOwn, replay_rules}
-use Rattle.cops_replay.specs.ReplayText.{FindsBy, IsRefusedBy, IsReplayBy, IsReplayOf, RefusesReplayOf, ReplaysFront, head_by, is_great_in, longest_record, starts_great_in}
+use Rattle.cops_replay.specs.ReplayText.{FindsBy, IsRefusedBy, IsReplayBy, IsReplayOf, RefusesReplayOf, ReplaysFront, alone_lines, head_by, is_great_in, longest_record, starts_great_in}
 use Rattle.cops_replay.proofs.AuditHeads.{short_in}
 use Rattle.cops_replay.proofs.EarlySteps.{by_its_rules}
 use Rattle.cops_replay.proofs.FileRuns as runs

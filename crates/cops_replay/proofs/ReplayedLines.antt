@@ -1,23 +1,18 @@
 -- One line of a replay.
-use Rattle.std.proofs.Common.{◌≡◌, ℕ, ◌⊎◌, Bool, true, false, cond, ◌&&◌, List, length, refl, sym, subst, ap, ◌∙◌, inl, inr, true≢false}
-use Rattle.std.specs.Prelude.{Option, Some, None, nat_le, IsFalse, IsTrue, OnOk, Result, Ok, Err}
-use Rattle.std.specs.Option.{is_none, is_some, option_map}
+use Rattle.std.proofs.Common.{◌≡◌, ℕ, Bool, true, false, cond, List, length, refl, sym, subst, ap, ◌∙◌, inl, inr, true≢false, arith}
+use Rattle.std.specs.Prelude.{Option, Some, None, nat_le, IsTrue}
+use Rattle.std.specs.Option.{is_some, option_map}
+use Rattle.std.proofs.lemmas.Bool.Decides.{nat_tests}
 use Rattle.cops_types.specs.Counts.{counted}
-use Rattle.cops_types.specs.declared.faults.Fault.{Fault}
-use Rattle.cops_types.specs.declared.faults.Fault.TheVariants as fault
-use Rattle.cops_types.specs.Refusal.{refused_if}
 use Rattle.cops_types.specs.TenantConfig.{TenantConfig}
 use Rattle.cops_model.specs.SoloNode.{SoloNode}
-use Rattle.cops_replay.specs.declared.layouts.Layout.{Layout}
 use Rattle.cops_replay.specs.declared.layouts.Layout.TheVariants.{Today, Early}
 use Rattle.cops_replay.specs.declared.Record.{Record}
-use Rattle.cops_replay.specs.AskedLines.{record_told}
-use Rattle.cops_replay.specs.OldRecords.{is_old_record, old_record_in, versions_in}
-use Rattle.cops_replay.specs.RecordLines.{record_by}
+use Rattle.cops_replay.specs.OldRecords.{old_record_in}
+use Rattle.cops_replay.specs.RecordLines.{record_told}
 use Rattle.cops_replay.specs.Replaying.{nodes_after}
-use Rattle.cops_replay.specs.ReplayText.{great_clock_of, is_great_in, longest_record, told_of}
-use Rattle.cops_replay.specs.Replayings.{IsLineReplayed, IsRecordCounted, IsReplayedLine, MayAgree, Standing}
-use Rattle.cops_replay.specs.Replays.{AreLoneNodes}
+use Rattle.cops_replay.specs.ReplayText.{longest_record, told_of}
+use Rattle.cops_replay.specs.Replayings.{AreLoneNodes, IsLineReplayed, IsRecordCounted, IsReplayedLine, MayAgree, Standing}
 use Rattle.cops_replay.proofs.EarlyReads.{early_record}
 
 -- ---- a line
@@ -27,26 +22,13 @@ none_from None over e is = refl
 none_from (Some place) over e is = absurd (true≢false (sym is ∙ e))
 
 pub over_line : (line : List ℕ) (old : Standing) (over : Bool) → over ≡ true → over ≡ is_some old.found → IsReplayedLine line old old
-over_line line old over e is = record {
-  layout = refl;
-  over = λ place found. refl;
-  goes = λ none. absurd (true≢false (sym e ∙ is ∙ ap is_some none));
-}
+over_line line old over e is = grind (arith, nat_tests)
 
 not_over : {A : Type 0} (old : Standing) → old.found ≡ None → (place : ℕ) → old.found ≡ Some place → A
 not_over old none place found = absurd (let clash : None ≡ Some place = sym none ∙ found in cc)
 
 pub unread_line : (line : List ℕ) (old new : Standing) (over : Bool) → over ≡ false → over ≡ is_some old.found → told_of old.layout line ≡ None → IsRecordCounted false old new → IsReplayedLine line old new
-unread_line line old new over e is none noted =
-    let here = none_from old.found over e is in
-    (record {
-      layout = noted.0;
-      over = not_over old here;
-      goes = λ nothing config solos are. inr (record {
-        differs = λ t some agrees. (let clash : None ≡ Some t = sym none ∙ some in cc);
-        found_is = noted.1;
-      });
-    })
+unread_line line old new over e is none noted = grind (arith, nat_tests)
 
 pub read_line : (line : List ℕ) (old mid new : Standing) (over : Bool) (agreed : Bool) → over ≡ false → over ≡ is_some old.found → told_of old.layout line ≡ record_told line → mid.layout ≡ old.layout →
     ((config : TenantConfig) (solos : List SoloNode) → AreLoneNodes config old.nodes solos → IsLineReplayed config line solos agreed mid.nodes) → mid.passed ≡ old.passed → mid.found ≡ old.found → IsRecordCounted agreed mid new → IsReplayedLine line old new

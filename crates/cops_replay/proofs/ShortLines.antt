@@ -1,5 +1,5 @@
 -- No line in the audit of a script is too long.
-use Rattle.std.proofs.Common.{◌≡◌, ℕ, ◌+◌, ◌≤◌, List, [], ◌∷◌, ◌++◌, length, map, sym, subst, arith}
+use Rattle.std.proofs.Common.{◌≡◌, ℕ, ◌+◌, ◌≤◌, List, [], ◌∷◌, length, map, sym, subst, arith}
 use Rattle.std.specs.Prelude.{IsTrue, Some, nat_le, slice_get, slice_index_or, Option}
 use Rattle.std.specs.List.{AllByRecursion}
 use Rattle.std.proofs.lemmas.Bool.Decides.{nat_tests}
@@ -29,7 +29,7 @@ use Rattle.cops_script.proofs.Numbered.{AreNumbered, AreOf, next_numbered, numbe
 use Rattle.cops_script.proofs.SaidLines.{said_in-placed}
 use Rattle.cops_script.proofs.TenantConfigs.{quota_at}
 use Rattle.cops_replay.specs.declared.Record.{Record}
-use Rattle.cops_replay.specs.Audits.{record_of, records_from}
+use Rattle.cops_replay.specs.AuditText.{record_of, records_from}
 use Rattle.cops_replay.specs.OpenAudits.{left_config, left_nodes, open_slots}
 use Rattle.cops_replay.specs.RecordText.{is_record, record_line}
 use Rattle.cops_replay.specs.ReplayText.{HasLine, longest_record}

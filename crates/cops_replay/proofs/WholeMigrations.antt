@@ -1,17 +1,15 @@
 -- An audit that both layouts have is migrated whole, and has the same head and the same records in both.
-use Rattle.std.proofs.Common.{◌≡◌, ℕ, ◌+◌, ◌≤◌, Bool, true, false, cond, ◌&&◌, List, [], ◌∷◌, ◌++◌, length, inl, inr, refl, sym, subst, ap, ◌∙◌, arith}
+use Rattle.std.proofs.Common.{◌≡◌, ℕ, ◌+◌, Bool, true, false, cond, List, [], ◌∷◌, ◌++◌, length, inl, inr, refl, sym, subst, ap, ◌∙◌, arith}
 use Rattle.std.specs.Prelude.{Option, Some, None, IsTrue, flat_map, nat_le, Ok}
 use Rattle.std.specs.List.{AllByRecursion, list_all}
-use Rattle.std.specs.Option.{is_none, option_map}
+use Rattle.std.specs.Option.{option_map}
 use Rattle.std.proofs.lemmas.Bool.Decides.{nat_tests}
 use Rattle.cops_types.specs.declared.configs.Config.{Config}
 use Rattle.cops_types.specs.declared.configs.Tenant.{Tenant}
-use Rattle.cops_types.specs.declared.faults.Fault.TheVariants.{Syntax}
 use Rattle.cops_types.specs.Head.{Front, AtStart, Within, Begun, HeadReading, Whole, BadAt, front_after, is_begun, reading_from}
-use Rattle.cops_types.specs.HeadLines.{IsTenantLineTo, is_name, is_quota, is_tenant_to}
+use Rattle.cops_types.specs.HeadLines.{IsTenantLineTo, is_tenant_to}
 use Rattle.cops_types.specs.Lines.{lines_of}
 use Rattle.cops_types.specs.OldHead.{has_clocks_to, last_old_clock, old_front_after, old_reading_from}
-use Rattle.cops_types.specs.Refusal.{refused_if}
 use Rattle.cops_types.specs.Version.{last_clock}
 use Rattle.cops_types.proofs.FrontLemmas.{front_after-finds}
 use Rattle.cops_types.proofs.WordLemmas.{both}
@@ -20,7 +18,7 @@ use Rattle.cops_replay.specs.declared.Record.{Record}
 use Rattle.cops_replay.specs.AuditText.{ended, head_text}
 use Rattle.cops_replay.specs.MigratedText.{migrated_from, migrated_records, migration_of, record_fault, with_text}
 use Rattle.cops_replay.specs.MigrationLaws.{IsAuditInBoth, ReadsAlike, whole_migration}
-use Rattle.cops_replay.specs.OldRecords.{last_early_clock, old_fault_of, old_record_in, old_refusal_of}
+use Rattle.cops_replay.specs.OldRecords.{last_early_clock, old_record_in}
 use Rattle.cops_replay.specs.RecordLines.{record_in}
 use Rattle.cops_replay.specs.ReplayText.{IsEarlyLine, longest_record, told_number}
 use Rattle.cops_replay.proofs.EarlyReads.{early_record}
@@ -42,9 +40,7 @@ read_early line (told, e) = by_short (nat_le (length line) longest_record) e
     by_short false e = absurd (let clash : ⊥ = cc in clash)
 
 no_fault : (line : List ℕ) → IsEarlyLine line → record_fault line ≡ None
-no_fault line early =
-    let found = read_early line early in
-    ap (λ t. cond t (old_refusal_of line) (Some Syntax)) found.0 ∙ ap (λ (o : Option (List ℕ × Record)). refused_if (is_none o) (old_fault_of line)) found.1.1
+no_fault line early = grind (arith, nat_tests)
 
 records_whole : (lines : List (List ℕ)) (number count : ℕ) → AllByRecursion IsEarlyLine lines → migrated_records lines number count ≡ record { text = flat_map ended lines; outcome = Ok (told_number (count + length lines)) }
 records_whole [] number count all = ap (λ n. record { text = []; outcome = Ok (told_number n) }) (omega arith)
@@ -72,14 +68,8 @@ last_early (first ∷ tenants) tenant h =
     let rest = last_early tenants tenant b.1 in
     (rw b.0 rest.0, rest.1)
 
-early_fits : (n : ℕ) → IsTrue (nat_le n last_early_clock) → IsTrue (nat_le n last_clock)
-early_fits n h = let low : n ≤ last_early_clock = grind (arith, nat_tests) in grind (arith, nat_tests)
-
 tenant_fits_today : (tenant : Tenant) → IsTrue (is_tenant_to last_old_clock tenant) → IsTrue (nat_le tenant.first_clock last_early_clock) → IsTrue (is_tenant_to last_clock tenant)
-tenant_fits_today tenant h early =
-    let a = both (is_name tenant.name && nat_le tenant.first_clock last_old_clock) (is_quota tenant.quota) h in
-    let b = both (is_name tenant.name) (nat_le tenant.first_clock last_old_clock) a.0 in
-    rw b.0 (rw (early_fits tenant.first_clock early) (rw a.1 refl))
+tenant_fits_today tenant h early = grind (arith, nat_tests)
 
 -- a line that leads here in layout 1 leads here today too, if the clocks are early; those before it are then among them
 leads_today : (front : Front) (line : List ℕ) (next : Front) → FollowsTo last_old_clock front line next → IsEarlyFront next → (front_after front line ≡ Some next) × IsEarlyFront front

@@ -1,19 +1,29 @@
 -- The answer to each line of an audit, and the state after it, for any body behind the head.
-use Rattle.std.specs.Prelude.{◌≡◌, ℕ, ◌⊎◌, Bool, true, false, List, [], Some, None, ⊤}
+use Rattle.std.specs.Prelude.{ℕ, List, ◌≡◌, ◌⊎◌, Bool, true, false, [], Some, None, ⊤}
 use Rattle.cops_types.specs.declared.configs.Config.{Config}
 use Rattle.cops_types.specs.Counts.{counted}
 use Rattle.cops_types.specs.Head.{Front, AtStart, Within, Begun}
-use Rattle.cops_script.specs.LineAnswers.{Answers}
 use Rattle.cops_script.specs.LineRules.{LineRules}
 use Rattle.cops_script.specs.declared.scripts.BadConfig.{BadConfig}
+use Rattle.cops_script.specs.LineAnswers.{Answers}
+use Rattle.cops_replay.specs.declared.layouts.Layout.{Layout}
 use Rattle.cops_replay.specs.declared.audit_machine.AuditFile.{AuditFile}
 use Rattle.cops_replay.specs.declared.audit_machine.AuditFile.TheVariants.{Head, Records}
 use Rattle.cops_replay.specs.declared.audit_machine.AuditMachine.{AuditMachine}
 use Rattle.cops_replay.specs.declared.file_heads.FileHead.{FileHead}
-use Rattle.cops_replay.specs.declared.layouts.Layout.{Layout}
 use Rattle.cops_replay.specs.declared.layouts.Layout.TheVariants.{Today}
-use Rattle.cops_replay.specs.AuditBodies.{AuditRules}
 use Rattle.cops_replay.specs.FileHeads.{ContinuesBy, IsFileHeadAt, count_in, front_in, front_with_by, layout_in, tells_layout}
+
+-- the rules of bodies of type B, with states of type R and refusals of type F
+pub record AuditRules (B R F : Type 0) : Type 1 where
+  -- a head of this layout and configuration is answered with this text, and starts this state
+  pub starts : B → Layout → Config → List ℕ → R → Type 0
+  -- or is refused with this value
+  pub refuses_start : B → Layout → Config → F → Type 0
+  -- the lines behind a head
+  pub lines : B → LineRules R F
+  -- the refusal of a bad head
+  pub bad_head : BadConfig → F
 
 -- no line has ended the head
 abbrev pub IsFileInHead : {R : Type 0} → AuditFile R → Type 0

@@ -16,8 +16,7 @@ use Rattle.cops_script.specs.declared.scripts.BadConfig.{BadConfig as BadHead}
 use Rattle.cops_script.specs.Script.{Output, Written, BadConfig}
 use Rattle.cops_script.specs.ScriptRuns.{text_in}
 use Rattle.cops_world.specs.Worlds.{KeptWorld}
-use Rattle.cops_replay.specs.Audits.{ReplaysSame}
-use Rattle.cops_replay.specs.AuditText.{audit_text}
+use Rattle.cops_replay.specs.AuditText.{ReplaysSame, audit_text}
 use Rattle.cops_replay.specs.OpenAudits.{left_config, left_nodes, open_config_of, open_nodes_of}
 
 -- the audit of the nodes after each open tenant's lines, as if it had a cluster to itself

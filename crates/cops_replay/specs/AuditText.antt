@@ -1,17 +1,55 @@
--- The text of an audit: the line of its layout, the head, and then each tenant's records.
-use Rattle.std.specs.Prelude.{◌≡◌, ℕ, ◌+◌, List, [], ◌∷◌, ◌++◌, codes, flat_map, slice_get, Some}
+-- The records of a tenant's audits, and the text of an audit: the line of its layout, the head, and then each tenant's records.
+use Rattle.std.specs.Prelude.{◌≡◌, ℕ, ◌+◌, List, [], ◌∷◌, ◌++◌, map, length, IsTrue, codes, flat_map, slice_get, Some}
+use Rattle.std.specs.List.{AllByRecursion}
 use Rattle.uuid.specs.Text.{hyphenated_text, lower}
+use Rattle.cops_types.specs.TenantConfig.{TenantConfig, tenant_config}
 use Rattle.cops_types.specs.declared.configs.Config.{Config}
 use Rattle.cops_types.specs.declared.configs.Tenant.{Tenant}
 use Rattle.cops_types.specs.HeadLines.{begin_line, cluster_line, tenant_line}
-use Rattle.cops_types.specs.TenantConfig.{TenantConfig, tenant_config}
 use Rattle.cops_types.specs.Words.{newline}
-use Rattle.cops_node.specs.Clusters.{HasTenant, IsCluster, nodes_of, shape_of}
-use Rattle.cops_node.specs.Parts.{Shared}
+use Rattle.cops_model.specs.declared.calls.AuditEntry.{AuditEntry}
+use Rattle.cops_model.specs.declared.calls.NodeId.{NodeId}
+use Rattle.cops_node.specs.Clusters.{id_of, HasTenant, IsCluster, nodes_of, shape_of}
+use Rattle.cops_model.specs.Place.{Place, place_of, fits}
+use Rattle.cops_node.specs.Run.{IsLeftByAudit}
+use Rattle.cops_node.specs.declared.Shape.{Shape}
 use Rattle.cops_model.specs.SoloNode.{SoloNode}
+use Rattle.cops_node.specs.Parts.{Shared}
 use Rattle.cops_replay.specs.declared.Record.{Record}
-use Rattle.cops_replay.specs.Audits.{records_of}
+use Rattle.cops_replay.specs.declared.Replayed.TheVariants.{Same}
+use Rattle.cops_replay.specs.Replaying.{Finds}
 use Rattle.cops_replay.specs.RecordText.{record_line}
+
+-- the record of a call in the audit of a node
+abbrev pub record_of : NodeId → AuditEntry → Record
+record_of id entry = record { node = id; moment = entry.moment; call = entry.call; reply = entry.reply }
+
+-- the records by node, from this number on, and then by place in the audit
+abbrev pub records_from : ℕ → ℕ → List SoloNode → List Record
+records_from shards number [] = []
+records_from shards number (node ∷ nodes) = map (record_of (id_of shards number)) node.trail ++ records_from shards (number + 1) nodes
+
+abbrev pub records_of : TenantConfig → List SoloNode → List Record
+records_of config nodes = records_from config.shards 0 nodes
+
+-- a solo node is what the calls of its audit leave, and they fit it
+pub record IsOfAudit (place : Place) (node : SoloNode) : Type 0 where
+  pub left : IsLeftByAudit place node
+  pub fitting : AllByRecursion (λ (entry : AuditEntry). IsTrue (fits place entry.call)) node.trail
+
+-- the same of each node from this number on
+abbrev pub AreOfAudits : TenantConfig → ℕ → List SoloNode → Type 0
+AreOfAudits config number [] = Unit {0}
+AreOfAudits config number (node ∷ nodes) = IsOfAudit (place_of config (id_of config.shards number)) node × AreOfAudits config (number + 1) nodes
+
+-- a replay of the records of these nodes finds each reply the same
+abbrev pub ReplaysSame : TenantConfig → List SoloNode → Type 0
+ReplaysSame config nodes = Finds config (records_of config nodes) (Same (length (records_of config nodes)))
+
+-- the configuration has the cluster's sizes
+pub record HasShape (config : TenantConfig) (shape : Shape) : Type 0 where
+  pub data_centres : config.data_centres ≡ shape.data_centres
+  pub shards : config.shards ≡ shape.shards
 
 -- with the newline that ends it
 abbrev pub ended : List ℕ → List ℕ

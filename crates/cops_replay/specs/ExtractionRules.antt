@@ -10,7 +10,7 @@ use Rattle.cops_replay.specs.declared.extraction_machine.PartOf.{PartOf}
 use Rattle.cops_replay.specs.declared.layouts.Layout.{Layout}
 use Rattle.cops_replay.specs.declared.refusals.PartRefusal.{PartRefusal}
 use Rattle.cops_replay.specs.declared.refusals.PartRefusal.TheVariants.{BadConfig, UnknownTenant}
-use Rattle.cops_replay.specs.AuditBodies.{AuditRules}
+use Rattle.cops_replay.specs.AuditFiles.{AuditRules}
 use Rattle.cops_replay.specs.AuditText.{ended}
 use Rattle.cops_replay.specs.OwnParts.{layout_lines, lone_head_lines}
 

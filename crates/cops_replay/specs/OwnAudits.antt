@@ -18,7 +18,7 @@ use Rattle.cops_replay.specs.declared.refusals.PartRefusal.{PartRefusal}
 use Rattle.cops_replay.specs.declared.refusals.PartRefusal.TheVariants.{BadConfig, UnknownTenant}
 use Rattle.cops_replay.specs.declared.Record.{Record}
 use Rattle.cops_replay.specs.declared.Replayed.TheVariants.{Same}
-use Rattle.cops_replay.specs.Audits.{records_of}
+use Rattle.cops_replay.specs.AuditText.{records_of}
 use Rattle.cops_replay.specs.OpenAudits.{audit_at, nodes_at, with_tenants}
 use Rattle.cops_replay.specs.OwnParts.{part_text}
 use Rattle.cops_replay.specs.RecordText.{record_line}

@@ -1,5 +1,5 @@
 -- A tenant's own part of an audit: an audit that has no other tenant.
-use Rattle.std.specs.Prelude.{◌≡◌, ℕ, ◌⊎◌, List, [], ◌∷◌, ◌++◌, flat_map, slice_get, Option, Some, None}
+use Rattle.std.specs.Prelude.{◌≡◌, ℕ, ◌⊎◌, List, [], ◌∷◌, ◌++◌, flat_map, Option, None}
 use Rattle.std.specs.Io.KnownBytes.{Appends, Keeps}
 use Rattle.uuid.specs.Text.{hyphenated_text, lower}
 use Rattle.cops_types.specs.declared.configs.Config.{Config}
@@ -14,8 +14,7 @@ use Rattle.cops_replay.specs.declared.layouts.Layout.TheVariants.{Today, Early}
 use Rattle.cops_replay.specs.declared.refusals.PartRefusal.{PartRefusal}
 use Rattle.cops_replay.specs.declared.refusals.PartRefusal.TheVariants.{BadConfig, UnknownTenant}
 use Rattle.cops_replay.specs.AuditText.{ended, layout_line}
-use Rattle.cops_replay.specs.ReplayParts.{seen_lines}
-use Rattle.cops_replay.specs.ReplayText.{IsAuditFor, head_by, layout_of}
+use Rattle.cops_replay.specs.ReplayText.{IsAuditFor, head_by, layout_of, seen_lines}
 
 -- ---- the lines of a part
 

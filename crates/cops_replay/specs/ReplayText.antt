@@ -1,5 +1,5 @@
--- The output of a replay of a file's records.
-use Rattle.std.specs.Prelude.{◌≡◌, ℕ, ◌+◌, ◌-◌, ◌^◌, ◌⊎◌, Bool, false, ◌&&◌, ◌||◌, min, nat_le, nat_lt, if◌then◌else◌, List, [], ◌∷◌, ◌++◌, length, codes, decimal, slice_get, IsFalse, IsTrue, Option, Some, None}
+-- The output of a replay of a file's records, and the part of the file on which it depends.
+use Rattle.std.specs.Prelude.{◌≡◌, ℕ, ◌+◌, ◌-◌, ◌^◌, ◌⊎◌, Bool, false, ◌&&◌, ◌||◌, min, nat_le, nat_lt, if◌then◌else◌, List, [], ◌∷◌, ◌++◌, filter, length, codes, decimal, slice_get, IsFalse, IsTrue, Option, Some, None, map}
 use Rattle.std.specs.List.{list_any}
 use Rattle.std.specs.Option.{is_none, option_map}
 use Rattle.std.specs.Str.{bytes_eq}
@@ -7,15 +7,15 @@ use Rattle.std.specs.Io.KnownBytes.{Keeps}
 use Rattle.cops_types.specs.declared.configs.Config.{Config}
 use Rattle.cops_types.specs.declared.configs.Tenant.{Tenant}
 use Rattle.cops_types.specs.declared.faults.Fault.{Fault}
-use Rattle.cops_types.specs.declared.faults.Fault.TheVariants as fault
 use Rattle.cops_types.specs.Head.{HeadReading, Whole, BadAt, AtStart, reading_from}
-use Rattle.cops_types.specs.Lines.{lines_of}
+use Rattle.cops_types.specs.Lines.{lines_of, cut_line}
 use Rattle.cops_types.specs.OldHead.{old_head_of}
 use Rattle.cops_types.specs.Refusal.{refused_if}
 use Rattle.cops_types.specs.Sink.{AppendsFront}
 use Rattle.cops_types.specs.Slots.{slot_of_name}
 use Rattle.cops_types.specs.TenantConfig.{TenantConfig, tenant_config}
-use Rattle.cops_types.specs.Words.{newline}
+use Rattle.cops_types.specs.Words.{first_word, newline}
+use Rattle.cops_types.specs.declared.faults.Fault.TheVariants as fault
 use Rattle.cops_model.specs.SoloNode.{SoloNode}
 use Rattle.cops_replay.specs.declared.layouts.Layout.{Layout}
 use Rattle.cops_replay.specs.declared.layouts.Layout.TheVariants.{Today, Early}
@@ -26,7 +26,6 @@ use Rattle.cops_replay.specs.declared.refusals.ReplayRefusal.{ReplayRefusal}
 use Rattle.cops_replay.specs.declared.refusals.ReplayRefusal.TheVariants.{BadConfig, UnknownTenant, ClockTooGreat}
 use Rattle.cops_replay.specs.AuditText.{layout_line}
 use Rattle.cops_replay.specs.OldRecords.{is_old_record, last_early_clock, old_record_in, versions_in}
-use Rattle.cops_replay.specs.OwnLines.{alone_lines}
 use Rattle.cops_replay.specs.RecordLines.{record_by}
 use Rattle.cops_replay.specs.RecordText.{is_record, record_line}
 use Rattle.cops_replay.specs.Replaying.{fresh_nodes}
@@ -65,6 +64,10 @@ IsEarlyLine line = (told : Record) × (told_of Early line ≡ Some told)
 abbrev pub starts_great_in : Layout → Tenant → Bool
 starts_great_in Today tenant = false
 starts_great_in Early tenant = nat_lt last_early_clock tenant.first_clock
+
+-- the lines that begin with a name
+abbrev pub alone_lines : List ℕ → List (List ℕ) → List (List ℕ)
+alone_lines name lines = filter (λ line. bytes_eq (first_word line) name) lines
 
 -- in either, if these are the lines of the tenant's records
 abbrev pub is_too_great_in : Layout → Tenant → List (List ℕ) → Bool
@@ -150,3 +153,15 @@ RefusesReplayOf name bytes refusal = IsRefusedBy (layout_of (lines_of bytes)) na
 abbrev pub ReplaysFront : List ℕ → List ℕ → Option (List ℕ) → Option (List ℕ) → Type 0
 ReplaysFront name bytes old_contents new_contents =
     Keeps old_contents new_contents ⊎ ((text : List ℕ) × IsReplayOf name bytes text × AppendsFront old_contents new_contents text)
+
+-- the lines that begin with the name; of a line that is too long for a record the first 200,001 bytes
+abbrev pub seen_lines : List ℕ → List (List ℕ) → List (List ℕ)
+seen_lines name lines = map (cut_line longest_record) (alone_lines name lines)
+
+-- the bytes are an audit in this layout, in whose head the tenant of this name has this configuration, and these are the lines that begin with
+-- its name; the configuration has no name and no token
+pub record HasPart (name bytes : List ℕ) (layout : Layout) (config : TenantConfig) (own : List (List ℕ)) : Type 0 where
+  pub layout_is : layout_of (lines_of bytes) ≡ layout
+  pub audit : IsAuditFor layout name (lines_of bytes)
+  pub config_is : tenant_config audit.config audit.tenant ≡ config
+  pub own_is : seen_lines name audit.records ≡ own

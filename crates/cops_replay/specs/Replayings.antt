@@ -1,17 +1,59 @@
--- A replay in progress: a tenant's nodes after the records so far.
-use Rattle.std.specs.Prelude.{◌≡◌, ℕ, Bool, true, false, ◌⊎◌, Option, Some, None, List, IsTrue}
+-- A replay in progress: one tenant's nodes after the records so far.
+use Rattle.std.specs.Prelude.{◌≡◌, ℕ, ◌*◌, ◌<◌, ◌≤◌, ◌⊎◌, Bool, true, false, List, length, slice_index_or, Option, Some, None}
 use Rattle.cops_types.specs.Counts.{counted}
+use Rattle.cops_types.specs.Layout.{NODES}
 use Rattle.cops_types.specs.TenantConfig.{TenantConfig}
-use Rattle.cops_model.specs.SoloNode.{SoloNode}
+use Rattle.cops_model.specs.declared.calls.NodeReply.{NodeReply}
+use Rattle.cops_model.specs.Place.{place_of}
+use Rattle.cops_model.specs.SoloNode.{SoloNode, new_node}
+use Rattle.cops_node.specs.Clusters.{id_of}
+use Rattle.cops_node.specs.Counting.{Counting, RepresentsSolo, place_of_counting}
+use Rattle.cops_node.specs.declared.Shape.{Shape}
 use Rattle.cops_replay.specs.declared.layouts.Layout.{Layout}
-use Rattle.cops_replay.specs.declared.layouts.Layout.TheVariants.{Today, Early}
+use Rattle.cops_replay.specs.declared.reading.Asked.{Asked}
 use Rattle.cops_replay.specs.declared.Record.{Record}
 use Rattle.cops_replay.specs.declared.Replayed.{Replayed}
 use Rattle.cops_replay.specs.declared.Replayed.TheVariants.{Same, FirstDifference}
+use Rattle.cops_replay.specs.RecordLines.{record_told, record_with}
 use Rattle.cops_replay.specs.Replaying.{Agrees, fresh_nodes, nodes_after}
-use Rattle.cops_replay.specs.AskedLines.{record_told}
-use Rattle.cops_replay.specs.Replays.{AreLoneNodes, IsReplayed, Lone}
 use Rattle.cops_replay.specs.ReplayText.{told_of}
+
+-- ---- the nodes
+
+-- the sizes of the cluster, and the nodes by number
+pub record Lone : Type 0 where
+  pub shape : Shape
+  pub nodes : List Counting
+
+-- there are as many nodes as the cluster has
+pub record AreAll (shape : Shape) (nodes : List Counting) : Type 0 where
+  pub all : length nodes ≡ shape.data_centres * shape.shards
+  pub numbers_fit : shape.data_centres * shape.shards ≤ NODES
+
+-- the node has its place, and represents this solo node
+pub record IsNodeAt (config : TenantConfig) (number : ℕ) (node : Counting) (solo : SoloNode) : Type 0 where
+  pub place : place_of_counting node ≡ place_of config (id_of config.shards number)
+  pub represents : RepresentsSolo node solo
+
+-- the nodes are those of a tenant with this configuration, and represent these solo nodes
+pub record AreLoneNodes (config : TenantConfig) (nodes : Lone) (solos : List SoloNode) : Type 0 where
+  pub data_centres : config.data_centres ≡ nodes.shape.data_centres
+  pub shards : config.shards ≡ nodes.shape.shards
+  pub all : length solos ≡ length nodes.nodes
+  pub each : (number : ℕ) (node : Counting) → number < length nodes.nodes → node ≡ slice_index_or nodes.nodes number node →
+      IsNodeAt config number node (slice_index_or solos number (new_node config.data_centres))
+
+-- the record agrees, and the nodes took its turn; or it does not agree
+abbrev pub IsReplayed : TenantConfig → Record → List SoloNode → Bool → Lone → Type 0
+IsReplayed config told solos true new = Agrees config told solos × AreLoneNodes config new (nodes_after config told solos)
+IsReplayed config told solos false new = Agrees config told solos → ⊥
+
+-- the record of the call with this reply agrees, and the nodes took its turn; or no record of the call agrees
+abbrev pub IsReplied : TenantConfig → Asked → List SoloNode → Option NodeReply → Lone → Type 0
+IsReplied config asked solos (Some reply) new = IsReplayed config (record_with asked reply) solos true new
+IsReplied config asked solos None new = (reply : NodeReply) → Agrees config (record_with asked reply) solos → ⊥
+
+-- ---- the lines so far
 
 -- the layout of the records, the nodes, the number of records that agreed, and the place of the first that does not
 pub record Standing : Type 0 where

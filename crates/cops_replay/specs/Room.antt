@@ -9,7 +9,6 @@ use Rattle.cops_model.specs.declared.calls.NodeId.{NodeId}
 use Rattle.cops_model.specs.declared.calls.NodeReply.{NodeReply}
 use Rattle.cops_model.specs.declared.calls.NodeReply.TheVariants.{Found, Pulled}
 use Rattle.cops_node.specs.declared.rows.Packing.{Packing}
-use Rattle.cops_node.specs.declared.rows.Packing.TheVariants.{PutStored, LatestFound, ExactFound, LatestAbsent, NotCome, WasCommitted, WasNotCommitted, EntryPulled, NothingPulled, EntryCommitted, CommittedBefore, EntryOutOfOrder, FrontAcked, FrontNotAcked, Collected, InFull}
 use Rattle.cops_node.specs.Rows.{exchange_of}
 use Rattle.cops_replay.specs.declared.Record.{Record}
 use Rattle.cops_replay.specs.RecordText.{node_text}
@@ -35,22 +34,7 @@ reply_room reply = 0
 
 -- that of a call and a reply in this form
 abbrev pub packing_room : Packing → ℕ
-packing_room (PutStored entry) = entry_room entry
-packing_room (LatestFound entry) = entry_room entry
-packing_room (ExactFound entry) = entry_room entry
-packing_room (LatestAbsent key) = 0
-packing_room (NotCome key version) = 0
-packing_room (WasCommitted key version) = 0
-packing_room (WasNotCommitted key version) = 0
-packing_room (EntryPulled dc entry) = entry_room entry
-packing_room (NothingPulled dc) = 0
-packing_room (EntryCommitted entry) = entry_room entry
-packing_room (CommittedBefore entry) = entry_room entry
-packing_room (EntryOutOfOrder entry mark) = entry_room entry
-packing_room (FrontAcked dc version) = 0
-packing_room (FrontNotAcked dc version) = 0
-packing_room (Collected count) = 0
-packing_room (InFull exchange) = call_room exchange.value.call + reply_room exchange.value.reply
+packing_room packing = call_room (exchange_of packing).call + reply_room (exchange_of packing).reply
 
 -- the whole line
 abbrev pub line_room : Packing → ℕ

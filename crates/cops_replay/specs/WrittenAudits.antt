@@ -8,7 +8,7 @@ use Rattle.cops_types.specs.TenantConfig.{TenantConfig, tenant_config}
 use Rattle.cops_model.specs.SoloNode.{SoloNode}
 use Rattle.cops_replay.specs.declared.Record.{Record}
 use Rattle.cops_replay.specs.declared.Replayed.TheVariants.{Same}
-use Rattle.cops_replay.specs.Audits.{ReplaysSame, records_of}
+use Rattle.cops_replay.specs.AuditText.{ReplaysSame, records_of}
 use Rattle.cops_replay.specs.OpenAudits.{left_config, left_nodes}
 use Rattle.cops_replay.specs.RecordText.{is_record}
 use Rattle.cops_replay.specs.ReplayText.{HasLine, IsReplayOf, replayed_text}

@@ -3,8 +3,7 @@ ghost use Rattle.std.specs.Prelude.{◌≡◌, None, Some, IfErr, IfNone, IfOk, 
 ghost use Rattle.cops_types.specs.Head.{AtStart};
 ghost use Rattle.cops_types.specs.HeadLines.{are_sizes};
 ghost use Rattle.cops_script.specs.LineAnswers.{Answers, IfRefused};
-ghost use Rattle.cops_replay.specs.AuditBodies.{AuditRules};
-ghost use Rattle.cops_replay.specs.AuditFiles.{BeginsAfter, GoesOnAfter, IsAtHead, IsFileInHead, head_refuses, rules_in};
+ghost use Rattle.cops_replay.specs.AuditFiles.{AuditRules, BeginsAfter, GoesOnAfter, IsAtHead, IsFileInHead, head_refuses, rules_in};
 ghost use Rattle.cops_replay.specs.FileHeads.{HaveClocks};
 ghost use Rattle.cops_replay.specs.declared.layouts.Layout.TheVariants.{Early};
 

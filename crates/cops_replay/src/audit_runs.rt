@@ -12,8 +12,7 @@ ghost use Rattle.cops_types.specs.Source.{source_failures, source_reader, source
 ghost use Rattle.cops_types.specs.TenantConfig.{TenantConfig};
 ghost use Rattle.cops_node.specs.Clusters.{nodes_of, shape_of};
 ghost use Rattle.cops_script.specs.Script.{Written};
-ghost use Rattle.cops_replay.specs.Audits.{HasShape, ReplaysSame};
-ghost use Rattle.cops_replay.specs.AuditText.{audit_text};
+ghost use Rattle.cops_replay.specs.AuditText.{HasShape, ReplaysSame, audit_text};
 ghost use Rattle.cops_replay.specs.AuditRuns.{HasItsTenants, IsOfWriting, ReplaysSameFor, WritesAudit, WritesAuditFront, audit_out, open_config, open_nodes};
 ghost use Rattle.cops_replay.specs.WrittenAudits.{AreFormed, AreFormedFor, SaysSameFor};
 

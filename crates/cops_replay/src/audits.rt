@@ -13,8 +13,7 @@ ghost use Rattle.cops_node.specs.Clusters.{HasTenant, IsCluster, shape_of};
 ghost use Rattle.cops_node.specs.Parts.{AuditFits, place_at, solo_of};
 ghost use Rattle.cops_model.specs.Place.{place_of};
 ghost use Rattle.cops_replay.specs.declared.Record.{Record};
-ghost use Rattle.cops_replay.specs.Audits.{record_of, records_of};
-ghost use Rattle.cops_replay.specs.AuditText.{AreNodesOf, audit_of, ended, head_text, his_nodes, records_text, tenants_text};
+ghost use Rattle.cops_replay.specs.AuditText.{AreNodesOf, audit_of, ended, his_nodes, record_of, records_of, records_text, tenants_text};
 ghost use Rattle.cops_replay.specs.OpenAudits.{AreNodesAt, audit_at, nodes_at, with_tenants};
 ghost use Rattle.cops_replay.specs.Pages.{PutsText, page};
 ghost use Rattle.cops_replay.specs.RecordText.{has_form, is_record, record_line};
@@ -144,21 +143,6 @@ fn put_records<W: Write>(
     Ok(())
 }
 
-/// Appends the line of the layout, and then the head of these tenants.
-fn put_head<W: Write>(
-    out: &mut Vec<u8>,
-    sink: &mut Sink<W>,
-    config: &Config,
-    tenants: &[Tenant],
-) -> Result<(), RequestError>
-    ensures { PutsText (head_text (with_tenants config.now tenants.now))
-        (page out.old.items (W.contents (sink_writer sink.old)) (sink_failures sink.old)) result
-        (page out.new.items (W.contents (sink_writer sink.new)) (sink_failures sink.new)) }
-{
-    push_head(out, config, tenants)?;
-    drain_full(out, sink)
-}
-
 /// Writes the audit of a configuration's nodes for these tenants, each of which has the slot of its
 /// place: the line of the layout, the head in its one form, and then a line for each call, by
 /// tenant, then by node, then by place in the audit.
@@ -193,9 +177,7 @@ pub(crate) fn write_audit_at<W: Write>(
         (HasRisen (sink_failures sink.old) (sink_failures sink.new)) }
 {
     let mut out = Vec::new(alloc);
-    if let Err(error) = put_head(&mut out, sink, config, tenants) {
-        return Err(error);
-    }
+    push_head(&mut out, config, tenants)?;
     if let Err(error) = put_records(&mut out, sink, config, tenants, slots, nodes) {
         return Err(error);
     }

@@ -5,7 +5,7 @@ ghost use Rattle.cops_types.specs.TenantConfig.{TenantConfig, tenant_config};
 ghost use Rattle.cops_types.specs.Version.{last_clock};
 ghost use Rattle.cops_model.specs.SoloNode.{SoloNode};
 ghost use Rattle.cops_replay.specs.Replaying.{fresh_nodes};
-ghost use Rattle.cops_replay.specs.Replays.{AreLoneNodes, IsReplied};
+ghost use Rattle.cops_replay.specs.Replayings.{AreLoneNodes, IsReplied};
 
 use crate::reading::Asked;
 use cops_node::{CountingNode, NodeId, NodeReply, Shape};
@@ -22,7 +22,7 @@ pub(crate) struct LoneNodes {
 }
 
 impl Model for LoneNodes {
-    ghost use Rattle.cops_replay.specs.Replays.{AreAll, Lone};
+    ghost use Rattle.cops_replay.specs.Replayings.{AreAll, Lone};
 
     ghost Value = { Lone };
 

@@ -1,12 +1,10 @@
 //! The migration of an audit of layout 1 to layout 2, over any reader and any writer.
-ghost use Rattle.std.specs.Prelude.{◌≡◌, ◌⊎◌, Err, IfErr, IfOk, IfSome, IsErrOf, Ok, OnErr, OnOk, Some};
+ghost use Rattle.std.specs.Prelude.{◌≡◌, ◌⊎◌, Err, IfErr, IfOk, IfSome, IsErrOf, Ok, OnErr, OnOk};
 ghost use Rattle.std.specs.Io.KnownBytes.{Appends, IsAtEnd};
 ghost use Rattle.cops_types.specs.Counts.{HasRisen, HasRisenBy};
-ghost use Rattle.cops_types.specs.Head.{AtStart};
 ghost use Rattle.cops_script.specs.LineRuns.{IfRunRefused};
 ghost use Rattle.cops_types.specs.Sink.{AppendsFront, sink_failures, sink_writer};
 ghost use Rattle.cops_types.specs.Source.{source_failures, source_reader, source_reads};
-ghost use Rattle.cops_replay.specs.declared.migration_machine.OldPart.TheVariants.{Head};
 ghost use Rattle.cops_replay.specs.MigratedText.{migration_of};
 ghost use Rattle.cops_replay.specs.MigrationRules.{records_in};
 
@@ -51,41 +49,6 @@ fn records_of(part: &OldPart) -> u64
     }
 }
 
-/// Migrates an audit from its first line on.
-fn migrate_lines<R: Read, O: Write>(
-    alloc: Global,
-    audit: &mut OldAudit,
-    source: &mut Source<R>,
-    sink: &mut Sink<O>,
-) -> Result<Migrated, RunFault<MigrationRefusal>>
-    requires part { audit.old.part ≡ Head (Some AtStart) }
-    requires lines { audit.old.lines ≡ 0 }
-    ensures end { OnOk result (IsAtEnd (R.remaining (source_reader source.new))) }
-    ensures ok { IfOk result (λ migrated. IfSome (R.remaining (source_reader source.old)) (λ bytes.
-        (migration_of bytes).outcome ≡ Ok migrated.records)) }
-    ensures text { OnOk result (IfSome (R.remaining (source_reader source.old)) (λ bytes.
-        Appends (O.contents (sink_writer sink.old)) (O.contents (sink_writer sink.new))
-        (migration_of bytes).text)) }
-    ensures front { OnErr result (IfSome (R.remaining (source_reader source.old)) (λ bytes.
-        AppendsFront (O.contents (sink_writer sink.old)) (O.contents (sink_writer sink.new))
-        (migration_of bytes).text)) }
-    ensures refused { IfErr result (λ fault. IfRunRefused fault (λ refusal.
-        IfSome (R.remaining (source_reader source.old))
-        (λ bytes. (migration_of bytes).outcome ≡ Err refusal))) }
-    ensures read_fault { IsErrOf result RunFault.ReadFault →
-        HasRisen (source_failures source.old) (source_failures source.new)
-        ⊎ HasRisenBy (source_reads source.old) (source_reads source.new) 4294967296 }
-    ensures write_fault { IsErrOf result RunFault.WriteFault →
-        HasRisen (sink_failures sink.old) (sink_failures sink.new) }
-{
-    match run_lines(audit, alloc, TURNS, LONGEST_RECORD, source, sink) {
-        Ok(()) => Ok(Migrated {
-            records: records_of(&audit.part),
-        }),
-        Err(fault) => Err(fault),
-    }
-}
-
 /// Migrates an audit of layout 1: writes the line `layout 2`, the head in its one form, and the
 /// unchanged record lines. A record's tenant need not be in the head.
 ///
@@ -123,5 +86,10 @@ pub fn migrate_text<R: Read, O: Write>(
         HasRisen (sink_failures sink.old) (sink_failures sink.new) }
 {
     let mut audit = new_old_audit();
-    migrate_lines(alloc, &mut audit, source, sink)
+    match run_lines(&mut audit, alloc, TURNS, LONGEST_RECORD, source, sink) {
+        Ok(()) => Ok(Migrated {
+            records: records_of(&audit.part),
+        }),
+        Err(fault) => Err(fault),
+    }
 }

@@ -12,7 +12,7 @@ ghost use Rattle.cops_types.specs.Source.{source_failures, source_reader, source
 ghost use Rattle.cops_types.specs.TenantConfig.{TenantConfig};
 ghost use Rattle.cops_node.specs.Clusters.{nodes_of, shape_of};
 ghost use Rattle.cops_script.specs.LineRuns.{IfRunRefused};
-ghost use Rattle.cops_replay.specs.Audits.{HasShape, ReplaysSame};
+ghost use Rattle.cops_replay.specs.AuditText.{HasShape, ReplaysSame};
 ghost use Rattle.cops_replay.specs.AuditRuns.{HasItsTenants};
 ghost use Rattle.cops_replay.specs.OwnAudits.{IsOwnAuditOf, IsSlotFormed, LacksTenant, RefusesOwnAuditOf, SaysSameOwn, WritesOwnAudit, WritesOwnAuditFront, WritesSlot, WritesSlotFront, as_part_fault, slot_audit};
 
@@ -27,7 +27,9 @@ use std::mem;
 
 /// Returns the fault of a script whose head is refused.
 fn part_fault(fault: RunFault<BadConfig>) -> RunFault<PartRefusal>
-    ensures { result ≡ as_part_fault fault }
+    ensures same { result ≡ as_part_fault fault }
+    ensures read { result ≡ RunFault.ReadFault → fault ≡ RunFault.ReadFault }
+    ensures write { result ≡ RunFault.WriteFault → fault ≡ RunFault.WriteFault }
 {
     match fault {
         RunFault::Refused(bad) => RunFault::Refused(PartRefusal::BadConfig(bad)),

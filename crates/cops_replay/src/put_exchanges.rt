@@ -1,20 +1,19 @@
 //! Calls and replies as text, written over existing bytes.
 ghost use Rattle.std.specs.Prelude.{◌≡◌, ◌≤◌, ◌+◌, ◌*◌, ◌++◌, [], length, take, IsTrue, OnOk};
-ghost use Rattle.cops_types.specs.FaultText.{fault_text};
 ghost use Rattle.cops_types.specs.Words.{spaced};
 ghost use Rattle.cops_model.specs.declared.calls.NodeCall.TheVariants.{DepCheck, Get, Put};
 ghost use Rattle.cops_model.specs.declared.calls.NodeReply.TheVariants.{Found};
-ghost use Rattle.cops_replay.specs.RecordText.{call_words, checked_text, has_form, is_call, is_reply, is_wanted, reply_words, wanted_text};
+ghost use Rattle.cops_replay.specs.RecordText.{call_words, has_form, is_call, is_reply, is_wanted, reply_words, wanted_text};
 ghost use Rattle.cops_replay.specs.Room.{IsNoMoreThan, IsRoomFor, call_room, entry_room, reply_room, stored_room};
 
 use crate::put_words::{put_ack, put_entered, put_numbered, put_stored, put_value, put_versioned};
 use cops_node::{NodeCall, NodeReply, Wanted};
 use cops_types::placed::{put_byte, put_deps, put_key, put_version, put_word};
-use cops_types::{Entry, Fault, Key, OwnedDeps, OwnedNear, OwnedValue, Version};
+use cops_types::{Entry, Key, OwnedDeps, OwnedNear, OwnedValue, Version};
 use std::alloc::AllocError;
 
 /// Returns the most room that a value of this many bytes and lists of this many pairs take.
-fn room_of_parts(value: usize, deps: usize, near: usize) -> usize
+pub(crate) fn room_of_parts(value: usize, deps: usize, near: usize) -> usize
     ensures enough { IsRoomFor (2 * value + 107 * deps + 107 * near) result }
     ensures no_more { IsNoMoreThan (2 * value + 107 * deps + 107 * near) result }
 {
@@ -174,28 +173,6 @@ pub(crate) fn put_found(
     put_deps(bytes, of_deps, deps)
 }
 
-/// Writes whether a version has been committed.
-fn put_checked(bytes: &mut [u8], at: usize, committed: bool) -> usize
-    requires { at + 165 ≤ length bytes.old }
-    ensures text { take result bytes.new ≡ take at bytes.old ++ checked_text committed }
-    ensures end { result ≤ at + 165 }
-{
-    if committed {
-        put_word(bytes, at, b"yes")
-    } else {
-        put_word(bytes, at, b"no")
-    }
-}
-
-/// Writes a fault.
-fn put_fault(bytes: &mut [u8], at: usize, fault: Fault) -> usize
-    requires { at + 165 ≤ length bytes.old }
-    ensures text { take result bytes.new ≡ take at bytes.old ++ fault_text fault }
-    ensures end { result ≤ at + 165 }
-{
-    put_word(bytes, at, &fault.text())
-}
-
 /// Writes a reply.
 pub(crate) fn put_reply(bytes: &mut [u8], at: usize, reply: &NodeReply) -> usize
     requires { at + reply_room reply.now + 165 ≤ length bytes.old }
@@ -211,7 +188,8 @@ pub(crate) fn put_reply(bytes: &mut [u8], at: usize, reply: &NodeReply) -> usize
         NodeReply::Gone(now) => put_numbered(bytes, at, b"gone", *now),
         NodeReply::NotYet => put_word(bytes, at, b"notyet"),
         NodeReply::Stored(version) => put_versioned(bytes, at, b"stored", *version),
-        NodeReply::Checked(committed) => put_checked(bytes, at, *committed),
+        NodeReply::Checked(true) => put_word(bytes, at, b"yes"),
+        NodeReply::Checked(false) => put_word(bytes, at, b"no"),
         NodeReply::Pulled(entry) => put_entered(bytes, at, b"entry", entry),
         NodeReply::Nothing => put_word(bytes, at, b"nothing"),
         NodeReply::Committed => put_word(bytes, at, b"committed"),
@@ -220,6 +198,6 @@ pub(crate) fn put_reply(bytes: &mut [u8], at: usize, reply: &NodeReply) -> usize
         NodeReply::Acked => put_word(bytes, at, b"acked"),
         NodeReply::NotFront => put_word(bytes, at, b"notfront"),
         NodeReply::Removed(count) => put_numbered(bytes, at, b"removed", *count),
-        NodeReply::Refused(fault) => put_fault(bytes, at, *fault),
+        NodeReply::Refused(fault) => put_word(bytes, at, &fault.text()),
     }
 }

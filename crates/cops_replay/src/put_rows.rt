@@ -6,11 +6,11 @@ ghost use Rattle.cops_node.specs.Rows.{exchange_of};
 ghost use Rattle.cops_model.specs.declared.calls.NodeReply.TheVariants.{Found};
 ghost use Rattle.cops_replay.specs.AuditText.{ended};
 ghost use Rattle.cops_replay.specs.RecordText.{call_words, has_form, is_call, is_record, is_reply, record_line, reply_words};
-ghost use Rattle.cops_replay.specs.Room.{IsNoMoreThan, IsRoomFor, entry_room, line_room, packed_record, packing_room};
+ghost use Rattle.cops_replay.specs.Room.{IsNoMoreThan, IsRoomFor, line_room, packed_record, packing_room, reply_room};
 
 use crate::put_exchanges::{
     put_call, put_check, put_found, put_get, put_put, put_reply, room_of_call, room_of_entry,
-    room_of_reply,
+    room_of_parts, room_of_reply,
 };
 use crate::put_words::{put_ack, put_entered, put_front, put_numbered, put_versioned};
 use cops_node::{NodeId, Packing, Wanted};
@@ -24,8 +24,8 @@ fn room_of_packing(packing: &Packing) -> usize
 {
     match packing {
         Packing::PutStored(entry) => room_of_entry(entry),
-        Packing::LatestFound(entry) => room_of_entry(entry),
-        Packing::ExactFound(entry) => room_of_entry(entry),
+        Packing::LatestFound(entry) => room_of_parts(entry.value().len(), entry.deps().len(), 0),
+        Packing::ExactFound(entry) => room_of_parts(entry.value().len(), entry.deps().len(), 0),
         Packing::EntryPulled(_, entry) => room_of_entry(entry),
         Packing::EntryCommitted(entry) => room_of_entry(entry),
         Packing::CommittedBefore(entry) => room_of_entry(entry),
@@ -49,10 +49,10 @@ pub(crate) fn room_of(packing: &Packing) -> usize
 
 /// Writes that an entry was found.
 fn put_found_entry(bytes: &mut [u8], at: usize, entry: &Entry) -> usize
-    requires { at + entry_room entry.now + 165 ≤ length bytes.old }
+    requires { at + reply_room (Found (found_in entry.now)) + 165 ≤ length bytes.old }
     ensures text { take result bytes.new
         ≡ take at bytes.old ++ spaced (reply_words (Found (found_in entry.now))) }
-    ensures end { result ≤ at + entry_room entry.now + 165 }
+    ensures end { result ≤ at + reply_room (Found (found_in entry.now)) + 165 }
     ensures formed { IsTrue (is_reply (Found (found_in entry.now))) }
 {
     put_found(bytes, at, entry.version(), entry.value(), entry.deps())

@@ -9,8 +9,7 @@ ghost use Rattle.cops_node.specs.Parts.{are_clocks};
 ghost use Rattle.cops_model.specs.MainTheorem.{with_tenant_alone};
 ghost use Rattle.cops_model.specs.SoloNode.{SoloNode};
 ghost use Rattle.cops_replay.specs.declared.layouts.Layout.TheVariants.{Early};
-ghost use Rattle.cops_replay.specs.Replays.{AreLoneNodes};
-ghost use Rattle.cops_replay.specs.Replayings.{IsBeforeRecords, IsLineReplayed, IsRecordCounted, IsReplayedLine, MayAgree, found_of};
+ghost use Rattle.cops_replay.specs.Replayings.{AreLoneNodes, IsBeforeRecords, IsLineReplayed, IsRecordCounted, IsReplayedLine, MayAgree, found_of};
 ghost use Rattle.cops_replay.specs.ReplayText.{great_clock_of, longest_record};
 
 use crate::Replayed;

@@ -1,6 +1,6 @@
 //! Tests whether a text is that of a reply.
 ghost use Rattle.std.specs.Prelude.{◌≡◌, ◌↔◌, ◌≤◌, ◌+◌, length, IfOk, IsTrue, Some};
-ghost use Rattle.cops_replay.specs.AskedLines.{reply_told};
+ghost use Rattle.cops_replay.specs.RecordLines.{reply_told};
 ghost use Rattle.cops_replay.specs.RecordText.{has_form};
 ghost use Rattle.cops_replay.specs.Room.{IsNoMoreThan, IsRoomFor, reply_room};
 

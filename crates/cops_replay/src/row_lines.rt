@@ -1,8 +1,7 @@
 //! Lines of the calls in an audit, appended to a vector.
 ghost use Rattle.std.specs.Prelude.{◌≡◌, ◌≤◌, ◌++◌, length, OnOk, IsTrue};
 ghost use Rattle.cops_node.specs.Rows.{exchange_of};
-ghost use Rattle.cops_replay.specs.AuditText.{ended};
-ghost use Rattle.cops_replay.specs.Audits.{record_of};
+ghost use Rattle.cops_replay.specs.AuditText.{ended, record_of};
 ghost use Rattle.cops_replay.specs.RecordText.{has_form, is_record, record_line};
 ghost use Rattle.cops_replay.specs.Room.{line_room, packed_record};
 

@@ -1,16 +1,23 @@
-use Rattle.std.proofs.Common.{suc, ◌≡◌, ◌+◌, ◌<◌, ◌∙◌, length, take, drop, sym, subst, ap, arith, Ok, Some}
+use Rattle.std.proofs.Common.{◌≡◌, ◌≤◌, ◌+◌, ◌<◌, ◌∙◌, length, drop, sym, ap, arith, Some}
 use Rattle.std.specs.Prelude.{slice_get}
+use Rattle.std.proofs.lemmas.List.{drop_all}
 use Rattle.std.proofs.lemmas.Option.{slice_get-get_or, slice_get_within}
 use Rattle.cops_types.specs.Sink.{sink_failures, sink_writer}
 use Rattle.cops_types.specs.TenantConfig.{tenant_config}
-use Rattle.cops_replay.specs.Audits.{records_of}
-use Rattle.cops_replay.specs.AuditText.{records_text, tenants_text}
+use Rattle.cops_replay.specs.AuditText.{records_of, records_text, tenants_text}
 use Rattle.cops_replay.specs.OpenAudits.{nodes_at, with_tenants}
-use Rattle.cops_replay.specs.Pages.{PutsText, page}
-use Rattle.cops_replay.proofs.PageLemmas.{Puts-ends, Puts-then}
-use Rattle.cops_replay.proofs.AuditTexts.{tenants_text_cut, tenants_text_one_more}
+use Rattle.cops_replay.specs.Pages.{page}
+use Rattle.cops_replay.proofs.PageLemmas.{all_left, left_early, less_left, none_left}
+use Rattle.cops_replay.proofs.AuditTexts.{tenants_left}
 use Rattle.cops_replay.proofs.WrittenForms.{one_tenant_formed}
 use Rattle.cops_replay.proofs.audits.put_records.Goals as goal
+
+pub loop-place-init : goal.loop-place-init
+loop-place-init g c = record {
+  text = all_left (tenants_text (with_tenants c.args.config.now c.args.tenants.now) (nodes_at c.args.config.now c.args.slots.now c.args.nodes.now) 0 c.args.tenants.now)
+      (page c.args.out.now.items (g.W.Write.contents (sink_writer c.args.sink.now)) (sink_failures c.args.sink.now));
+  formed = λ slot tenant below e. absurd (omega (arith, below));
+}
 
 pub returns-in-Err-clause-text : goal.returns-in-Err-clause-text
 returns-in-Err-clause-text g c =
@@ -21,10 +28,10 @@ returns-in-Err-clause-text g c =
     let tenant = c.index-tenants-place.result in
     let below : i < length tenants = omega arith in
     let found : slice_get tenants i ≡ Some tenant = slice_get-get_or tenants i tenant below ∙ ap Some (sym c.index-tenants-place.is) in
-    Puts-ends (tenants_text config nodes 0 (take i tenants)) (records_text tenant.name (records_of (tenant_config config tenant) (nodes (tenant_config config tenant) i)))
-    (tenants_text config nodes (i + 1) (drop (suc i) tenants)) (tenants_text config nodes 0 tenants)
-    (page c.args.out.now.items (g.W.Write.contents (sink_writer c.args.sink.now)) (sink_failures c.args.sink.now)) (page c.loop-place.out.items (g.W.Write.contents (sink_writer c.loop-place.sink)) (sink_failures c.loop-place.sink)) tt c.in-Err.error (page c.put_tenant.new.out.items (g.W.Write.contents (sink_writer c.put_tenant.new.sink)) (sink_failures c.put_tenant.new.sink))
-    (tenants_text_cut config nodes tenants i tenant found) c.loop-place.invariant.text c.in-Err.ensures.text
+    left_early (tenants_text config nodes 0 tenants) (records_text tenant.name (records_of (tenant_config config tenant) (nodes (tenant_config config tenant) i))) (tenants_text config nodes (i + 1) (drop (i + 1) tenants))
+    (tenants_text config nodes i (drop i tenants)) (page c.args.out.now.items (g.W.Write.contents (sink_writer c.args.sink.now)) (sink_failures c.args.sink.now))
+    (page c.loop-place.out.items (g.W.Write.contents (sink_writer c.loop-place.sink)) (sink_failures c.loop-place.sink)) c.in-Err.error
+    (page c.put_tenant.new.out.items (g.W.Write.contents (sink_writer c.put_tenant.new.sink)) (sink_failures c.put_tenant.new.sink)) (tenants_left config nodes tenants i tenant found) c.loop-place.invariant.text c.in-Err.ensures.text
 
 pub loop-place-preserved : goal.loop-place-preserved
 loop-place-preserved g c =
@@ -35,12 +42,11 @@ loop-place-preserved g c =
     let tenant = c.index-tenants-place.result in
     let below : i < length tenants = omega arith in
     let found : slice_get tenants i ≡ Some tenant = slice_get-get_or tenants i tenant below ∙ ap Some (sym c.index-tenants-place.is) in
-    let old = page c.args.out.now.items (g.W.Write.contents (sink_writer c.args.sink.now)) (sink_failures c.args.sink.now) in
-    let new = page c.put_tenant.new.out.items (g.W.Write.contents (sink_writer c.put_tenant.new.sink)) (sink_failures c.put_tenant.new.sink) in
     record {
-      text = subst (λ l. PutsText {T = Unit {0}} l old (Ok tt) new) (sym (tenants_text_one_more config nodes tenants i tenant found))
-          (Puts-then (tenants_text config nodes 0 (take i tenants)) (records_text tenant.name (records_of (tenant_config config tenant) (nodes (tenant_config config tenant) i)))
-          old (page c.loop-place.out.items (g.W.Write.contents (sink_writer c.loop-place.sink)) (sink_failures c.loop-place.sink)) tt (Ok tt) new c.loop-place.invariant.text c.in_default.ensures.text);
+      text = less_left (tenants_text config nodes 0 tenants) (records_text tenant.name (records_of (tenant_config config tenant) (nodes (tenant_config config tenant) i))) (tenants_text config nodes (i + 1) (drop (i + 1) tenants))
+          (tenants_text config nodes i (drop i tenants)) (page c.args.out.now.items (g.W.Write.contents (sink_writer c.args.sink.now)) (sink_failures c.args.sink.now))
+          (page c.loop-place.out.items (g.W.Write.contents (sink_writer c.loop-place.sink)) (sink_failures c.loop-place.sink))
+          (page c.put_tenant.new.out.items (g.W.Write.contents (sink_writer c.put_tenant.new.sink)) (sink_failures c.put_tenant.new.sink)) (tenants_left config nodes tenants i tenant found) c.loop-place.invariant.text c.in_default.ensures.text;
       formed = one_tenant_formed config nodes i tenant found c.loop-place.invariant.formed c.in_default.ensures.formed;
     }
 
@@ -55,6 +61,18 @@ put_tenant-requires-clause-tenant g c =
 
 pub bounds-slots-place : goal.bounds-slots-place
 bounds-slots-place g c = let many = c.requires.nodes.each_slot in omega (arith, many)
+
+pub returns-clause-text : goal.returns-clause-text
+returns-clause-text g c =
+    let tenants = c.args.tenants.now in
+    let config = with_tenants c.args.config.now tenants in
+    let nodes = nodes_at c.args.config.now c.args.slots.now c.args.nodes.now in
+    let i = c.loop-place.place in
+    let past : length tenants ≤ i = omega arith in
+    none_left (tenants_text config nodes 0 tenants) (tenants_text config nodes i (drop i tenants))
+    (page c.args.out.now.items (g.W.Write.contents (sink_writer c.args.sink.now)) (sink_failures c.args.sink.now))
+    (page c.loop-place.out.items (g.W.Write.contents (sink_writer c.loop-place.sink)) (sink_failures c.loop-place.sink))
+    (ap (tenants_text config nodes i) (drop_all i tenants past)) c.loop-place.invariant.text
 
 pub returns-clause-formed : goal.returns-clause-formed
 returns-clause-formed g c place tenant e =

@@ -1,15 +1,18 @@
-use Rattle.std.proofs.Common.{Ok, take}
+use Rattle.std.proofs.Common.{drop}
 use Rattle.cops_types.specs.Sink.{sink_failures, sink_writer}
 use Rattle.cops_replay.specs.AuditText.{tenants_text}
 use Rattle.cops_replay.specs.OpenAudits.{nodes_at, with_tenants}
-use Rattle.cops_replay.specs.Pages.{PutsText, page}
+use Rattle.cops_replay.specs.Pages.{page}
+use Rattle.cops_replay.proofs.PageLemmas.{IsLeft}
 use Rattle.cops_replay.proofs.WrittenForms.{AreFormedBelow}
 use Rattle.cops_replay.proofs.audits.put_records.Given as goal
 
 abbrev pub invariant-loop-place : goal.invariant-loop-place
-invariant-loop-place g l = record {
-  text : PutsText {T = Unit {0}} (tenants_text (with_tenants l.config l.tenants) (nodes_at l.config l.slots l.nodes) 0 (take l.place l.tenants))
-      (page l.fn.out.items (g.W.Write.contents (sink_writer l.fn.sink)) (sink_failures l.fn.sink)) (Ok tt)
-      (page l.out.items (g.W.Write.contents (sink_writer l.sink)) (sink_failures l.sink));
-  formed : AreFormedBelow (with_tenants l.config l.tenants) (nodes_at l.config l.slots l.nodes) l.place;
-}
+invariant-loop-place g l =
+    let config = with_tenants l.config l.tenants in
+    let nodes = nodes_at l.config l.slots l.nodes in
+    record {
+      text : IsLeft (tenants_text config nodes 0 l.tenants) (tenants_text config nodes l.place (drop l.place l.tenants))
+          (page l.fn.out.items (g.W.Write.contents (sink_writer l.fn.sink)) (sink_failures l.fn.sink)) (page l.out.items (g.W.Write.contents (sink_writer l.sink)) (sink_failures l.sink));
+      formed : AreFormedBelow config nodes l.place;
+    }

@@ -1,5 +1,4 @@
 use Rattle.std.proofs.Common.{◌≡◌, ℕ, List, refl, subst, ◌∙◌}
-use Rattle.std.specs.Prelude.{Some, slice_get}
 use Rattle.std.specs.List.{AllByRecursion}
 use Rattle.cops_types.specs.Head.{Whole, head_of}
 use Rattle.cops_types.specs.TenantConfig.{tenant_config}

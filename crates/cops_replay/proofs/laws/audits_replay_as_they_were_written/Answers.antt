@@ -1,5 +1,4 @@
-use Rattle.cops_replay.proofs.LineReplays.{text_replays}
-use Rattle.cops_replay.proofs.WrittenAudits.{his_lines, says_same, script_says_same}
+use Rattle.cops_replay.proofs.WrittenAudits.{his_lines, says_same, script_says_same, text_replays}
 use Rattle.cops_replay.proofs.laws.audits_replay_as_they_were_written.Goals as goal
 
 pub returns-clause-lines : goal.returns-clause-lines

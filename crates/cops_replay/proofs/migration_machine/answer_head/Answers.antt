@@ -1,9 +1,7 @@
-use Rattle.std.proofs.Common.{[], ◌∙◌, ap, append-nil, refl, subst, sym}
+use Rattle.std.proofs.Common.{[], append-nil, refl, subst, sym}
 use Rattle.cops_script.specs.LineAnswers.{Answers}
-use Rattle.cops_replay.specs.AuditText.{head_text}
-use Rattle.cops_replay.specs.OpenAudits.{with_tenants}
 use Rattle.cops_replay.specs.declared.migration_machine.OldPart.{OldPart}
-use Rattle.cops_replay.specs.declared.migration_machine.OldPart.TheVariants.{Head, Records}
+use Rattle.cops_replay.specs.declared.migration_machine.OldPart.TheVariants.{Head}
 use Rattle.cops_replay.specs.MigrationRules.{part_answers}
 use Rattle.cops_replay.proofs.migration_machine.answer_head.Goals as goal
 

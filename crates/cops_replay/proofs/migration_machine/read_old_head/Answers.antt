@@ -1,6 +1,5 @@
 use Rattle.std.proofs.Common.{sym, ◌∙◌, refl}
-use Rattle.cops_replay.proofs.OldFronts.{bad_said}
-use Rattle.cops_replay.proofs.OldHeadSteps.{goes_on, too_great}
+use Rattle.cops_replay.proofs.OldFronts.{bad_said, goes_on, too_great}
 use Rattle.cops_replay.proofs.migration_machine.read_old_head.Goals as goal
 
 pub returns-then-has_clocks_to-clause-more : goal.returns-then-has_clocks_to-clause-more

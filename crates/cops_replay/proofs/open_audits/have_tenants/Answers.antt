@@ -1,4 +1,4 @@
-use Rattle.std.proofs.Common.{◌≡◌, ◌<◌, ◌∙◌, arith, refl, sym, subst}
+use Rattle.std.proofs.Common.{◌∙◌, arith, refl, sym, subst}
 use Rattle.std.specs.Prelude.{List, Option}
 use Rattle.cops_types.specs.declared.configs.Tenant.{Tenant}
 use Rattle.cops_replay.specs.OpenAudits.{HaveSlot, HaveTenants}

@@ -1,24 +1,25 @@
-use Rattle.std.proofs.Common.{Err, ap}
+use Rattle.std.proofs.Common.{◌≡◌, Err, ap}
 use Rattle.std.proofs.lemmas.Option.{IfSome_then}
 use Rattle.std.proofs.lemmas.Result.{on_err_weaker, on_ok_weaker}
+use Rattle.cops_script.specs.declared.line_runs.fault.RunFault.TheVariants.{ReadFault, WriteFault}
 use Rattle.cops_replay.proofs.AuditRunLemmas.{tenants_read}
-use Rattle.cops_replay.proofs.OwnAuditRuns.{bad_refused, both_ok, err_refused, no_own_front, nothing_kept, says_part, was_read, was_write, writes_own, writes_own_front}
+use Rattle.cops_replay.proofs.OwnAuditRuns.{bad_refused, both_ok, err_refused, no_own_front, nothing_kept, says_part, writes_own, writes_own_front}
 use Rattle.cops_replay.proofs.own_audits.audit_part_text.Goals as goal
 
 pub returns-in-Err-clause-err : goal.returns-in-Err-clause-err
 returns-in-Err-clause-err g c = no_own_front c.args.tenant.now _ _
 
 pub returns-in-Err-clause-refused : goal.returns-in-Err-clause-refused
-returns-in-Err-clause-refused g c = bad_refused c.args.tenant.now _ c.in-Err.fault c.part_fault.result c.part_fault.ensures c.in-Err.ensures.bad_head
+returns-in-Err-clause-refused g c = bad_refused c.args.tenant.now _ c.in-Err.fault c.part_fault.result c.part_fault.ensures.same c.in-Err.ensures.bad_head
 
 pub returns-in-Err-clause-unwritten : goal.returns-in-Err-clause-unwritten
 returns-in-Err-clause-unwritten g c = nothing_kept _ c.part_fault.result
 
 pub returns-in-Err-clause-read_fault : goal.returns-in-Err-clause-read_fault
-returns-in-Err-clause-read_fault g c is = c.in-Err.ensures.read_fault (ap Err (was_read c.in-Err.fault c.part_fault.result c.part_fault.ensures is))
+returns-in-Err-clause-read_fault g c is = c.in-Err.ensures.read_fault (ap Err (c.part_fault.ensures.read (let same : c.part_fault.result ≡ ReadFault = cc in same)))
 
 pub returns-in-Err-clause-write_fault : goal.returns-in-Err-clause-write_fault
-returns-in-Err-clause-write_fault g c is = absurd (c.in-Err.ensures.write_fault (ap Err (was_write c.in-Err.fault c.part_fault.result c.part_fault.ensures is)))
+returns-in-Err-clause-write_fault g c is = absurd (c.in-Err.ensures.write_fault (ap Err (c.part_fault.ensures.write (let same : c.part_fault.result ≡ WriteFault = cc in same))))
 
 pub write_own-result-requires : goal.write_own-result-requires
 write_own-result-requires g c = tenants_read c.in-Ok.world _ _ c.in-Ok.ensures.read

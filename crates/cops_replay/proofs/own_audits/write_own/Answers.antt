@@ -1,7 +1,6 @@
 use Rattle.std.proofs.Common.{◌≡◌, ◌∙◌, ap, sym, inr}
 use Rattle.std.specs.Prelude.{None, Some}
 use Rattle.std.specs.Option.{option_copied}
-use Rattle.cops_types.specs.OpenSlots.{open_at}
 use Rattle.cops_replay.proofs.OwnAuditParts.{open_found}
 use Rattle.cops_replay.proofs.OwnAuditRuns.{opened_at}
 use Rattle.cops_replay.proofs.own_audits.write_own.Goals as goal

@@ -5,7 +5,7 @@ use Rattle.cops_types.specs.TenantConfig.{tenant_config}
 use Rattle.cops_model.specs.SoloNode.{SoloNode}
 use Rattle.cops_replay.specs.declared.Replayed.{Replayed}
 use Rattle.cops_replay.specs.Replaying.{Finds, FindsFrom}
-use Rattle.cops_replay.specs.Replays.{AreLoneNodes}
+use Rattle.cops_replay.specs.Replayings.{AreLoneNodes}
 use Rattle.cops_replay.proofs.replaying.replay.Given as goal
 
 abbrev pub invariant-loop-told : goal.invariant-loop-told

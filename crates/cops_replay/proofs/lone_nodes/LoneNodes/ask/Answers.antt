@@ -1,11 +1,5 @@
-use Rattle.std.proofs.Common.{◌≡◌, ◌+◌, ◌*◌, ◌<◌, ◌≤◌, List, ap, arith, get_or, length, set, subst, sym, ◌∙◌}
-use Rattle.std.specs.Prelude.{IsTrue, None, Some}
-use Rattle.std.proofs.Math.ListN.{length-set}
-use Rattle.cops_types.specs.Layout.{NODES}
-use Rattle.cops_types.specs.TenantConfig.{TenantConfig}
-use Rattle.cops_model.specs.SoloNode.{SoloNode}
-use Rattle.cops_node.specs.Counting.{Counting}
-use Rattle.cops_replay.specs.Replays.{AreLoneNodes, IsReplied, Lone}
+use Rattle.std.proofs.Common.{arith, subst, sym, ◌∙◌}
+use Rattle.cops_replay.specs.Replayings.{AreLoneNodes, Lone}
 use Rattle.cops_replay.proofs.ReplayLemmas.{not_fitting, number_small, replied}
 use Rattle.cops_replay.proofs.lone_nodes.LoneNodes.ask.Goals as goal
 

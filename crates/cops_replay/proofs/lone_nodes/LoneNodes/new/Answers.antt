@@ -1,9 +1,7 @@
-use Rattle.std.proofs.Common.{◌≡◌, ◌+◌, ◌*◌, ◌<◌, ◌≤◌, ◌∙◌, ◌++◌, ◌∷◌, [], List, ap, arith, length, length-append, refl, subst, sym}
-use Rattle.cops_types.specs.Layout.{NODES}
+use Rattle.std.proofs.Common.{◌≡◌, ◌*◌, ◌∙◌, ◌∷◌, [], ap, arith, length, length-append, refl, subst, sym}
 use Rattle.cops_types.specs.TenantConfig.{tenant_config}
 use Rattle.cops_model.specs.Place.{place_of}
 use Rattle.cops_node.specs.Clusters.{id_of}
-use Rattle.cops_node.specs.Counting.{Counting}
 use Rattle.cops_node.proofs.Fresh.{numbers_fit}
 use Rattle.cops_replay.proofs.ReplayLemmas.{AreNew, nodes_new, none_new, one_new}
 use Rattle.cops_replay.proofs.lone_nodes.LoneNodes.new.Goals as goal

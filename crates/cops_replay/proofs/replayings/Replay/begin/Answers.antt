@@ -3,7 +3,7 @@ use Rattle.std.specs.Prelude.{Some}
 use Rattle.cops_types.specs.declared.configs.Tenant.{Tenant}
 use Rattle.cops_types.specs.TenantConfig.{tenant_config}
 use Rattle.cops_replay.specs.Replaying.{fresh_nodes}
-use Rattle.cops_replay.specs.Replays.{AreLoneNodes}
+use Rattle.cops_replay.specs.Replayings.{AreLoneNodes}
 use Rattle.cops_replay.proofs.ReplayLemmas.{clock_at}
 use Rattle.cops_replay.proofs.replayings.Replay.begin.Goals as goal
 
