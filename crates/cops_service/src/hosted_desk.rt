@@ -51,6 +51,7 @@ impl<'a, R: Wait> HostedDesk<'a, R> {
 
     /// Makes a call of a slot at a node, or admits or closes its tenant there, in one turn of that node.
     /// Fails with `AllocError` if memory runs out at the node.
+    #[inline(always)]
     pub fn ask(
         &mut self,
         id: NodeId,
@@ -86,6 +87,7 @@ impl<R: Wait> Nodes for LifeDesk<'_, R> {
 
     ghost Answers = { λ old id slot moment call reply new. (new.desk.cluster.now ≡ old.desk.cluster.now) × (new.desk.seat.ghost_name ≡ old.desk.seat.ghost_name) × (new.slot ≡ old.slot) × (new.life ≡ old.life) × IsLifeCall old.desk.cluster.now old.desk.seat.now id old.slot old.life moment call reply new.desk.seat.now };
 
+    #[inline(always)]
     fn step(
         &mut self,
         id: NodeId,

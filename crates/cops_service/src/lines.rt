@@ -118,6 +118,7 @@ impl<'a, C: Clock> Line<'a, C> {
     }
 
     // Reads once. Returns `None` if nothing came for a while.
+    #[inline(always)]
     fn read_once(&self, buf: &mut [u8]) -> Option<io::Result<usize>>
         ensures { IfSome result (λ read. ReadsAtMost read buf.new) }
     {

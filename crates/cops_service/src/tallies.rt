@@ -1,5 +1,5 @@
 //! Counts of frames.
-ghost use Rattle.std.specs.Prelude.{◌≡◌, ◌≢◌, ◌-◌, ◌<◌, ◌⊎◌, false, length, IsFalse, IsTrue};
+ghost use Rattle.std.specs.Prelude.{◌≡◌, ◌≢◌, ◌-◌, ◌<◌, ◌≤◌, ◌⊎◌, false, drop, length, IsFalse, IsTrue};
 ghost use Rattle.cops_service.specs.Tallies.{after, measured, seen};
 
 /// The tag of a refusal.
@@ -84,6 +84,10 @@ impl Tally {
         }
         let first = bytes[0];
         if self.left == 0 {
+            if self.head == 0 && bytes.len() >= 4 {
+                self.take_whole_length(bytes);
+                return &bytes[4..];
+            }
             self.take_length(first);
             return &bytes[1..];
         }
@@ -94,6 +98,7 @@ impl Tally {
     }
 
     // Passes a byte of a length.
+    #[inline(always)]
     fn take_length(&mut self, byte: u8)
         ensures { self.new ≡ measured byte self.old }
     {
@@ -105,6 +110,20 @@ impl Tally {
             self.head = 0;
             self.length = 0;
         }
+    }
+
+    // Passes the four bytes of a length.
+    #[inline(always)]
+    fn take_whole_length(&mut self, bytes: &[u8])
+        requires four { 4 ≤ length bytes.now }
+        requires no_body { self.old.left ≡ 0 }
+        requires first { self.old.head ≡ 0 }
+        ensures { after self.new (drop 4 bytes.now) ≡ after self.old bytes.now }
+    {
+        self.take_length(bytes[0]);
+        self.take_length(bytes[1]);
+        self.take_length(bytes[2]);
+        self.take_length(bytes[3]);
     }
 
     // Passes a byte of a body, but for counting it as passed.
