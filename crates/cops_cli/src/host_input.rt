@@ -114,6 +114,7 @@ impl<R: Clock> HostInput<'_, R> {
                 Ok(()) => return,
                 Err(back) => line = back,
             }
+            self.lines.wake();
             thread::sleep(self.rt, Duration::from_millis(PAUSE));
         }
     }
@@ -128,8 +129,13 @@ impl<R: Clock> Follows for HostInput<'_, R> {
         }
     }
 
+    fn rest(&mut self) {
+        self.lines.wake();
+    }
+
     fn finish(&mut self) {
         self.hand_on();
+        self.lines.wake();
     }
 }
 
