@@ -19,7 +19,7 @@ use Rattle.cops_service.specs.HostedLeft.{AreLeftByLives}
 use Rattle.cops_service.proofs.HostedLeaving.{as_many_by_lives, at_home_by_lives}
 use Rattle.cops_cli.specs.Commands.{AreServedByLives, HasHead, MayEnd, MayFail, Streams, serving_lives}
 use Rattle.cops_cli.specs.declared.faults.CliFault.{CliFault}
-use Rattle.cops_cli.specs.declared.faults.CliFault.TheVariants.{OutOfMemory, ReadFault, WriteFault, Torn}
+use Rattle.cops_cli.specs.declared.faults.CliFault.TheVariants.{OutOfMemory, ReadFault, WriteFault}
 use Rattle.cops_cli.proofs.ServingFacts.{keeps}
 
 -- nodes that are left and have the open tenants are the configuration's, with these tenants
@@ -29,15 +29,12 @@ open_left config tenants nodes sizes left have =
     (λ number node below is. at_home_by_lives config number nodes node left (slice_get-get_or nodes number node below ∙ ap Some (sym is))) have
 
 -- a service that ends before anything is written
-pub lives_end_early : (old new : Streams) (ended : CliFault) → new.contents ≡ old.contents → IfSome old.remaining HasHead → (ended ≡ OutOfMemory) ⊎ ((ended ≡ ReadFault) ⊎ (ended ≡ Torn)) → MayFail serving_lives old new ended
+pub lives_end_early : (old new : Streams) (ended : CliFault) → new.contents ≡ old.contents → IfSome old.remaining HasHead → (ended ≡ OutOfMemory) ⊎ (ended ≡ ReadFault) → MayFail serving_lives old new ended
 lives_end_early old new ended same head stopped =
     let kept : Keeps old.contents new.contents = subst (Keeps old.contents) (sym same) (keeps old.contents) in
     elim stopped [
       | inl lack ↦ subst (MayFail serving_lives old new) (sym lack) (record { why = inl tt; begun = inl kept })
-      | inr others ↦ elim others [
-        | inl failed ↦ subst (MayFail serving_lives old new) (sym failed) (record { why = inr (inl (head, kept)); begun = inl kept })
-        | inr torn ↦ subst (MayFail serving_lives old new) (sym torn) (record { why = inr (head, kept); begun = inl kept })
-      ]
+      | inr failed ↦ subst (MayFail serving_lives old new) (sym failed) (record { why = inr (inl (head, kept)); begun = inl kept })
     ]
 
 -- the audit is written, or a prefix of it

@@ -22,7 +22,7 @@ use Rattle.cops_service.proofs.Told.{left_count, left_in_place}
 use Rattle.cops_cli.specs.Commands.{AreServedForHead, HasHead, MayEnd, MayFail, Streams, serving}
 use Rattle.cops_cli.specs.Faults.{ended_serving_by}
 use Rattle.cops_cli.specs.declared.faults.CliFault.{CliFault}
-use Rattle.cops_cli.specs.declared.faults.CliFault.TheVariants.{OutOfMemory, ReadFault, WriteFault, Torn}
+use Rattle.cops_cli.specs.declared.faults.CliFault.TheVariants.{OutOfMemory, ReadFault, WriteFault}
 
 -- nodes that are left are the configuration's
 pub left_nodes : (config : Config) (nodes : List Shared) → IsTrue (are_sizes config) → AreLeft (new_nodes config).nodes nodes → AreNodesOf config nodes

@@ -33,7 +33,7 @@ use Rattle.cops_cli.specs.declared.command_line.Service.{Service}
 use Rattle.cops_cli.specs.declared.command_line.Task.{Task}
 use Rattle.cops_cli.specs.declared.command_line.Task.TheVariants.{Run, Solo, Audit, Replay, Extract, Migrate, Serve}
 use Rattle.cops_cli.specs.declared.faults.CliFault.{CliFault}
-use Rattle.cops_cli.specs.declared.faults.CliFault.TheVariants.{BadHead, BadLine, UnknownTenant, ClockTooGreat, OutOfMemory, ReadFault, WriteFault, Torn}
+use Rattle.cops_cli.specs.declared.faults.CliFault.TheVariants.{BadHead, BadLine, UnknownTenant, ClockTooGreat, OutOfMemory, ReadFault, WriteFault}
 
 -- ---- any command
 
@@ -225,11 +225,10 @@ abbrev pub WritesServedLivesFront : Streams → Streams → Type 0
 WritesServedLivesFront old new = Keeps old.contents new.contents
     ⊎ ((config : Config) × (tenants : List (Option Tenant)) × (nodes : List Shared) × AreServedByLives old.remaining config tenants nodes × AppendsFront old.contents new.contents (open_audit_of config tenants nodes))
 
--- the same as of a service with fixed tenants; or a turn of a node was never ended, or the nodes that are left lack an open tenant
+-- the same as of a service with fixed tenants
 abbrev pub refuses_service_of_lives : Streams → Streams → CliFault → Type 0
 refuses_service_of_lives old new (BadHead line) = RefusesAll (HasBadHead line) old new
 refuses_service_of_lives old new ReadFault = RefusesAll HasHead old new ⊎ WritesServedLives old new
-refuses_service_of_lives old new Torn = RefusesAll HasHead old new
 refuses_service_of_lives old new other = ⊥
 
 -- a service for clients whose tenants come and go, and its audit

@@ -3,8 +3,8 @@ use Rattle.std.specs.Prelude.{◌≡◌, ◌≢◌, ⊤}
 use Rattle.clap.specs.Words.{kind_of}
 use Rattle.clap.specs.declared.error.Error.{Error}
 use Rattle.clap.specs.declared.error.kind.ErrorKind.TheVariants as kind
-use Rattle.cops_types.specs.declared.faults.Fault.{Fault}
-use Rattle.cops_types.specs.declared.faults.Fault.TheVariants as fault
+use Rattle.cops_types.specs.declared.request_errors.RequestError.{RequestError}
+use Rattle.cops_types.specs.declared.request_errors.RequestError.TheVariants as request_error
 use Rattle.cops_script.specs.declared.line_runs.fault.RunFault.{RunFault}
 use Rattle.cops_script.specs.declared.line_runs.fault.RunFault.TheVariants as run
 use Rattle.cops_script.specs.declared.scripts.BadConfig.{BadConfig}
@@ -17,7 +17,7 @@ use Rattle.cops_replay.specs.declared.refusals.PartRefusal.TheVariants as part
 use Rattle.cops_replay.specs.declared.refusals.ReplayRefusal.{ReplayRefusal}
 use Rattle.cops_replay.specs.declared.refusals.ReplayRefusal.TheVariants as replay
 use Rattle.cops_cli.specs.declared.faults.CliFault.{CliFault}
-use Rattle.cops_cli.specs.declared.faults.CliFault.TheVariants.{CommandLine, NoText, BadHead, BadLine, UnknownTenant, ClockTooGreat, OutOfMemory, ReadFault, WriteFault, Torn}
+use Rattle.cops_cli.specs.declared.faults.CliFault.TheVariants.{CommandLine, NoText, BadHead, BadLine, UnknownTenant, ClockTooGreat, OutOfMemory, ReadFault, WriteFault}
 
 -- the fault of a run whose refusals become these faults
 abbrev pub ended_by : {F : Type 0} → (F → CliFault) → RunFault F → CliFault
@@ -51,12 +51,10 @@ abbrev pub not_migrated : MigrationRefusal → CliFault
 not_migrated (migration.BadConfig bad) = BadHead bad.line
 not_migrated (migration.BadLine bad) = BadLine bad.fault bad.line
 
--- the fault of a service, or of an audit
-abbrev pub ended_serving_by : Fault → CliFault
-ended_serving_by fault.OutOfMemory = OutOfMemory
-ended_serving_by fault.WriteFault = WriteFault
-ended_serving_by fault.Torn = Torn
-ended_serving_by other = ReadFault
+-- the fault of a service that left nothing: a thread could not be started
+abbrev pub ended_serving_by : RequestError → CliFault
+ended_serving_by request_error.OutOfMemory = OutOfMemory
+ended_serving_by (request_error.Refused why) = ReadFault
 
 -- the fault of words that clap refuses
 pub record RefusesWords (error : Error) (fault : CliFault) : Type 0 where

@@ -1,6 +1,6 @@
 //! The faults that the program ends with.
 ghost use Rattle.std.specs.Prelude.{◌≡◌};
-ghost use Rattle.cops_cli.specs.Faults.{RefusesWords, bad_head, ended_by, ended_serving_by, not_answered, not_extracted, not_migrated, not_replayed};
+ghost use Rattle.cops_cli.specs.Faults.{RefusesWords, bad_head, ended_by, not_answered, not_extracted, not_migrated, not_replayed};
 ghost use Rattle.cops_cli.specs.Statuses.{fault_status};
 ghost use Rattle.cops_cli.specs.declared.faults.CliFault.TheVariants.{OutOfMemory};
 
@@ -36,24 +36,9 @@ pub(crate) enum CliFault {
     ReadFault,
     #[error("cops: {}\n", Fault::WriteFault)]
     WriteFault,
-    /// A turn of a node was never ended.
-    #[error("cops: {}\n", Fault::Torn)]
-    Torn,
 }
 
 impl CliFault {
-    /// Returns the fault of a service or an audit. A listener that fails counts as a reader.
-    pub(crate) fn of_service(fault: Fault) -> CliFault
-        ensures { result ≡ ended_serving_by fault }
-    {
-        match fault {
-            Fault::OutOfMemory => CliFault::OutOfMemory,
-            Fault::WriteFault => CliFault::WriteFault,
-            Fault::Torn => CliFault::Torn,
-            _ => CliFault::ReadFault,
-        }
-    }
-
     /// Returns the program's exit status.
     pub(crate) fn status(&self) -> u8
         ensures { result ≡ fault_status self.now }
@@ -64,7 +49,6 @@ impl CliFault {
             CliFault::BadLine(_, _) => 2,
             CliFault::ClockTooGreat => 2,
             CliFault::OutOfMemory | CliFault::ReadFault | CliFault::WriteFault => 1,
-            CliFault::Torn => 1,
         }
     }
 }

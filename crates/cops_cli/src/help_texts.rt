@@ -151,8 +151,6 @@ Standard error says where it listens, what it served, and before E26 why.
 
 Status  Standard error              When
 0                                   the audit is written
-1       cops: E19                   a turn of a node was never ended, or the nodes
-                                    lack an open tenant
 1       cops: E23                   out of memory
 1       cops: E26                   standard input or the listener failed, nothing
                                     can listen there, or a thread didn't start

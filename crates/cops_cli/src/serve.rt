@@ -13,6 +13,7 @@ ghost use Rattle.cops_replay.specs.WrittenAudits.{AllReplaySame, HaveLines, Says
 ghost use Rattle.cops_service.specs.Left.{AreLeft};
 ghost use Rattle.cops_cli.specs.Causes.{cause_text};
 ghost use Rattle.cops_cli.specs.Commands.{MayEnd, serving, streams};
+ghost use Rattle.cops_cli.specs.Faults.{ended_serving_by};
 
 use crate::command_line::Service;
 use crate::control::{Hosted, follow_input};
@@ -21,7 +22,9 @@ use crate::host_input::LineSoFar;
 use crate::moments::SteadyMoments;
 use cops_replay::write_audit;
 use cops_script::{BadConfig, RunFault, read_config};
-use cops_service::{Cause, Counts, Options, Reports, Served, ServiceEnd, Stop, serve_with};
+use cops_service::{
+    Cause, Counts, Listening, Options, Reports, Served, ServiceEnd, Stop, serve_with,
+};
 use cops_types::{Config, RequestError, Sink, Source};
 use std::alloc::{AllocError, Global};
 use std::io::{Read, Write};
@@ -162,13 +165,32 @@ where
         is_verbose: service.is_verbose,
     };
     let moments = SteadyMoments::new(rt);
-    let served = serve_with(rt, alloc, config, &listener, options, &stop, &told, moments);
+    let listening = Listening {
+        listener: &listener,
+        options,
+        stop: &stop,
+        reports: &told,
+    };
+    let served = serve_with(rt, alloc, config, listening, moments);
     match served {
         Ok(served) => match told_end(rt, served.end, served.counts) {
             Ok(()) => Ok(served),
             Err(fault) => Err(fault),
         },
-        Err(error) => Err(CliFault::of_service(error.told())),
+        Err(error) => Err(told_failure(rt, error)),
+    }
+}
+
+/// Says why a service left nothing: memory ran out, or a thread couldn't be started. Returns the fault.
+pub(crate) fn told_failure<R: Eprint>(rt: &R, error: RequestError) -> CliFault
+    ensures { result ≡ ended_serving_by error }
+{
+    match error {
+        RequestError::OutOfMemory => CliFault::OutOfMemory,
+        RequestError::Refused(_) => {
+            let _ = eprintln!(rt; "cops: cannot start a thread");
+            CliFault::ReadFault
+        }
     }
 }
 

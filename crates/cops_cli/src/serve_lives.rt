@@ -17,11 +17,16 @@ use crate::control::Hosted;
 use crate::faults::CliFault;
 use crate::host_input::hand_input_on;
 use crate::moments::SteadyMoments;
-use crate::serve::{Told, listen, options_of, shared, stop_at, tell_of_head, told_end};
+use crate::serve::{
+    Told, listen, options_of, shared, stop_at, tell_of_head, told_end, told_failure,
+};
 use cops_model::HostReply;
-use cops_replay::{have_tenants, write_open_audit};
+use cops_replay::write_open_audit;
 use cops_script::read_config;
-use cops_service::{Host, HostLines, HostReports, HostServed, ServiceEnd, serve_with_host};
+use cops_service::{
+    Host, HostLines, HostReports, HostServed, ServiceEnd, open_tenants_are_at_all_nodes,
+    serve_with_host,
+};
 use cops_types::{Config, Name, RequestError, Sink, Source};
 use std::alloc::Global;
 use std::io::{Read, Write};
@@ -58,33 +63,6 @@ where
     Ok(lines)
 }
 
-/// Passes a service on whose nodes have its open tenants. They do, and no contract says so: it is looked at.
-fn checked(served: HostServed) -> Result<HostServed, CliFault>
-    ensures same { IfOk result (λ same. same ≡ served) }
-    ensures tenants { IfOk result (λ same. HaveTenants same.roster.tenants same.nodes.items) }
-    ensures torn { IfErr result (λ fault. fault ≡ CliFault.Torn) }
-{
-    if have_tenants(served.roster.tenants(), served.nodes.as_slice()) {
-        Ok(served)
-    } else {
-        Err(CliFault::Torn)
-    }
-}
-
-/// Says what was served, and passes it on.
-fn told<R: Eprint>(rt: &R, served: HostServed) -> Result<HostServed, CliFault>
-    ensures same { IfOk result (λ told. told ≡ served) }
-    ensures threads { OnOk result (served.end ≢ ServiceEnd.NoThread) }
-    ensures tenants { IfOk result (λ told. HaveTenants told.roster.tenants told.nodes.items) }
-    ensures stopped { IfErr result
-        (λ fault. (fault ≡ CliFault.ReadFault) ⊎ (fault ≡ CliFault.Torn)) }
-{
-    match told_end(rt, served.end, served.counts) {
-        Ok(()) => checked(served),
-        Err(fault) => Err(fault),
-    }
-}
-
 /// Serves clients at the address, and follows the host's lines meanwhile.
 fn serve_tenants<R>(
     rt: &R,
@@ -101,8 +79,10 @@ where
     ensures tenants { IfOk result (λ served. HaveTenants served.roster.tenants served.nodes.items) }
     ensures threads { IfOk result (λ served. served.end ≢ ServiceEnd.NoThread) }
     ensures stopped { IfErr result (λ fault.
-        (fault ≡ CliFault.OutOfMemory) ⊎ (fault ≡ CliFault.ReadFault) ⊎ (fault ≡ CliFault.Torn)) }
+        (fault ≡ CliFault.OutOfMemory) ⊎ (fault ≡ CliFault.ReadFault)) }
 {
+    // Nodes that a service leaves have its open tenants.
+    open_tenants_are_at_all_nodes::<SteadyMoments<'_, R>>();
     let listener = listen(rt, service.address)?;
     let stop = stop_at(rt, &listener)?;
     let lines = input_of(rt, alloc)?;
@@ -119,8 +99,11 @@ where
     let moments = SteadyMoments::new(rt);
     let served = serve_with_host(rt, alloc, config, &listener, options, host, moments);
     match served {
-        Ok(served) => told(rt, served),
-        Err(error) => Err(CliFault::of_service(error.told())),
+        Ok(served) => match told_end(rt, served.end, served.counts) {
+            Ok(()) => Ok(served),
+            Err(fault) => Err(fault),
+        },
+        Err(error) => Err(told_failure(rt, error)),
     }
 }
 

@@ -1,7 +1,7 @@
 //! A service whose tenants come and go.
 ghost use Rattle.std.specs.Prelude.{◌≡◌, ◌≢◌, ◌⊎◌, ◌+◌, map, max, length, OnOk, IsTrue, IfOk, IfErr, IfSome};
 ghost use Rattle.std.specs.List.{AllByRecursion};
-ghost use Rattle.cops_types.specs.declared.faults.Fault.TheVariants.{Torn};
+ghost use Rattle.cops_types.specs.declared.faults.Fault.TheVariants.{ReadFault};
 ghost use Rattle.cops_types.specs.declared.request_errors.RequestError.TheVariants.{OutOfMemory, Refused};
 ghost use Rattle.cops_types.specs.HeadLines.{are_sizes};
 ghost use Rattle.cops_node.specs.Parts.{are_clocks};
@@ -63,10 +63,11 @@ pub struct HostServed {
     pub counts: Counts,
 }
 
-/// How a service ended, and the tenants that are open then.
+/// How a service ended, what it did, and the tenants that are open then.
 #[derive(Drop)]
 struct Outcome {
     end: ServiceEnd,
+    counts: Counts,
     roster: Roster,
 }
 
@@ -124,6 +125,7 @@ fn end_seats<T: Moments + Copy>(
     alloc: Global,
     seated: &mut HostedSeat<'_>,
     left: Option<Left>,
+    counts: Counts,
     moments: T,
     workers: u64,
 ) -> Result<Outcome, AllocError>
@@ -142,15 +144,21 @@ fn end_seats<T: Moments + Copy>(
         Some(Left { finished, roster }) => match finished {
             Some(FinishedLives { end, seats }) => {
                 seated.end_all(seats);
-                Ok(Outcome { end, roster })
+                Ok(Outcome {
+                    end,
+                    counts,
+                    roster,
+                })
             }
             None => Ok(Outcome {
                 end: ServiceEnd::NoThread,
+                counts,
                 roster,
             }),
         },
         None => Ok(Outcome {
             end: ServiceEnd::NoThread,
+            counts,
             roster: Roster::of(alloc, seated.config)?,
         }),
     }
@@ -164,7 +172,6 @@ fn serve_nodes<R, T, L, S>(
     listener: &TcpListener,
     options: Options,
     host: Host<'_, L>,
-    totals: &Totals,
     moments: T,
 ) -> Result<Outcome, AllocError>
 where
@@ -186,6 +193,7 @@ where
     let residents = Residents::<S>::of(alloc, seated.config, seated.cluster, &mut seated.seat)?;
     let notes = Notes::of_slots(alloc, seated.config, MOST_TENANTS)?;
     let helpers = helpers(alloc, seated.config, &notes)?;
+    let totals = Totals::new();
     let together = Together {
         rt,
         alloc,
@@ -195,13 +203,13 @@ where
         options,
         notes: &notes,
         stop: host.stop,
-        totals,
+        totals: &totals,
         reports: host.reports,
         residents: &residents,
         lines: host.lines,
     };
     let left = serve_hosted(together, crew, helpers, roster, moments)?;
-    end_seats(alloc, seated, left, moments, workers)
+    end_seats(alloc, seated, left, totals.counts(), moments, workers)
 }
 
 // The nodes alone.
@@ -236,7 +244,7 @@ where
     ensures left { IfOk result (λ served. AreLeftByLives config.now served.nodes.items) }
     ensures served { IfOk result (λ served. served.end ≢ NoThread → AreServedInLives T.Gives moments
         config.now (max options.workers 1) served.nodes.items served.roster) }
-    ensures refused { IfErr result (λ error. (error ≡ OutOfMemory) ⊎ (error ≡ Refused Torn)) }
+    ensures refused { IfErr result (λ error. (error ≡ OutOfMemory) ⊎ (error ≡ Refused ReadFault)) }
 {
     let (cluster, seat) = Cluster::host(alloc, config)?;
     let mut seated = HostedSeat {
@@ -244,7 +252,6 @@ where
         cluster: &cluster,
         seat,
     };
-    let totals = Totals::new();
     let outcome = serve_nodes::<R, T, L, Brand>(
         rt,
         alloc,
@@ -252,18 +259,20 @@ where
         listener,
         options,
         host,
-        &totals,
         moments,
     )?;
     let seat = seated.into_seat();
-    let counts = totals.counts();
     let closed = cluster.close(alloc, seat)?;
     // If all threads started, each gave its seat back, and no node is lacking.
     let Some(hosted) = closed else {
-        return Err(RequestError::Refused(Fault::Torn));
+        return Err(RequestError::Refused(Fault::ReadFault));
     };
     let nodes = nodes_of(alloc, hosted)?;
-    let Outcome { end, roster } = outcome;
+    let Outcome {
+        end,
+        counts,
+        roster,
+    } = outcome;
     Ok(HostServed {
         nodes,
         roster,

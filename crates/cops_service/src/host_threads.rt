@@ -24,15 +24,14 @@ use crate::life_promises::{
 };
 use crate::lines::{Line, grace_of};
 use crate::living::LivingDesk;
-use crate::notes::{Notes, Stream};
+use crate::notes::Notes;
 use crate::reports::{HostReports, Reports, Totals};
 use crate::residents::{Resident, Residents, Site};
 use crate::roster::Roster;
 use crate::serving::Options;
 use crate::stops::Stop;
 use crate::tenant_host::TenantHost;
-use crate::threads::{Helpers, conclude};
-use crate::waiting::Waiting;
+use crate::threads::{Carrying, Helpers, conclude};
 use crate::watching::Stay;
 use cops_gate::ClusterSeat;
 use cops_node::HostedNode;
@@ -323,8 +322,7 @@ fn work<R: Wait + Clock, L: Reports, T: Moments + Copy, S: Site>(
 fn carry<R: Wait + Clock, L, T: Moments + Copy, S: Site>(
     together: Together<'_, R, L, S>,
     mut seat: ServiceSeat<HostedNode>,
-    mut streams: Vec<Stream>,
-    mut waiting: Waiting,
+    mut carrying: Carrying,
     mut moments: T,
 ) -> ServiceSeat<HostedNode>
     requires open { IsHostedFor together.config.now together.cluster.now }
@@ -344,7 +342,12 @@ fn carry<R: Wait + Clock, L, T: Moments + Copy, S: Site>(
         notes: together.notes,
         ahead: Ahead::new(together.alloc),
     };
-    carry_lives(&mut nodes, &mut moments, &mut streams, &mut waiting);
+    carry_lives(
+        &mut nodes,
+        &mut moments,
+        &mut carrying.streams,
+        &mut carrying.waiting,
+    );
     seat
 }
 
@@ -597,8 +600,7 @@ fn serve_and_carry<R, L, T, S>(
     host: ServiceSeat<HostedNode>,
     carrier: ServiceSeat<HostedNode>,
     roster: Roster,
-    streams: Vec<Stream>,
-    waiting: Waiting,
+    carrying: Carrying,
     moments: T,
 ) -> Result<Option<Left>, AllocError>
 where
@@ -634,7 +636,7 @@ where
                         × IsNewSeatOf together.cluster.now carrier }
                     ensures { HasSinceDone together.entry.cluster.now
                         (CarriesLives together.entry.config.now together.entry.cluster.now) result }
-                { carry(together, carrier, streams, waiting, moments) },
+                { carry(together, carrier, carrying, moments) },
             ) else {
                 return Ok(None);
             };
@@ -690,8 +692,7 @@ where
         collector,
     } = crew;
     let Helpers {
-        streams,
-        waiting,
+        carrying,
         collecting,
     } = helpers;
     thread::scope(
@@ -719,9 +720,7 @@ where
             ) else {
                 return Ok(None);
             };
-            let left = serve_and_carry(
-                together, workers, host, carrier, roster, streams, waiting, moments,
-            );
+            let left = serve_and_carry(together, workers, host, carrier, roster, carrying, moments);
             together.notes.grown.end(together.rt);
             let collector = collects.join(together.rt);
             let Some(Left { finished, roster }) = left? else {

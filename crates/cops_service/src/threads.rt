@@ -60,11 +60,17 @@ pub(crate) struct Crew {
     pub(crate) collector: ServiceSeat<Node>,
 }
 
+/// What the thread that carries keeps: the work items that it has taken, and until when it waits for others.
+#[derive(Drop)]
+pub(crate) struct Carrying {
+    pub(crate) streams: Vec<Stream>,
+    pub(crate) waiting: Waiting,
+}
+
 /// What the threads that carry and collect keep.
 #[derive(Drop)]
 pub(crate) struct Helpers {
-    pub(crate) streams: Vec<Stream>,
-    pub(crate) waiting: Waiting,
+    pub(crate) carrying: Carrying,
     pub(crate) collecting: Collecting,
 }
 
@@ -244,8 +250,7 @@ fn work<R: Wait + Clock, L: Reports, T: Moments + Copy>(
 fn carry<R: Wait + Clock, L: Reports, T: Moments + Copy>(
     shared: Shared<'_, R, L>,
     mut seat: ServiceSeat<Node>,
-    mut streams: Vec<Stream>,
-    mut waiting: Waiting,
+    mut carrying: Carrying,
     mut moments: T,
 ) -> ServiceSeat<Node>
     requires open { IsOpenFor shared.config.now shared.cluster.now }
@@ -259,7 +264,13 @@ fn carry<R: Wait + Clock, L: Reports, T: Moments + Copy>(
         notes: shared.notes,
         ahead: Ahead::new(shared.alloc),
     };
-    carry_at_desk(shared, &mut nodes, &mut streams, &mut waiting, &mut moments);
+    carry_at_desk(
+        shared,
+        &mut nodes,
+        &mut carrying.streams,
+        &mut carrying.waiting,
+        &mut moments,
+    );
     seat
 }
 
@@ -376,8 +387,7 @@ fn serve_and_carry<R, L, T>(
     shared: Shared<'_, R, L>,
     seats: Vec<ServiceSeat<Node>>,
     carrier: ServiceSeat<Node>,
-    streams: Vec<Stream>,
-    waiting: Waiting,
+    carrying: Carrying,
     moments: T,
 ) -> Result<Option<Finished>, AllocError>
 where
@@ -409,7 +419,7 @@ where
                         × IsNewSeatOf shared.cluster.now carrier }
                     ensures { HasJustDone shared.entry.cluster.now
                         (CarriesStreams shared.entry.config.now shared.entry.cluster.now) result }
-                { carry(shared, carrier, streams, waiting, moments) },
+                { carry(shared, carrier, carrying, moments) },
             ) else {
                 return Ok(None);
             };
@@ -450,8 +460,7 @@ where
         collector,
     } = crew;
     let Helpers {
-        streams,
-        waiting,
+        carrying,
         collecting,
     } = helpers;
     thread::scope(
@@ -478,7 +487,7 @@ where
             ) else {
                 return Ok(None);
             };
-            let served = serve_and_carry(shared, workers, carrier, streams, waiting, moments);
+            let served = serve_and_carry(shared, workers, carrier, carrying, moments);
             shared.notes.grown.end(shared.rt);
             let collector = collects.join(shared.rt);
             let Some(mut finished) = served? else {

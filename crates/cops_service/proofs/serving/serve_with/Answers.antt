@@ -26,7 +26,7 @@ returns-in-Some-clause-served g c = λ started.
     elim c.in_ok-end.ensures.seen [
       | inl none ↦ absurd (started none)
       | inr seen ↦
-          are_served g.T.Moments.Gives c.args.moments c.args.config.now c.in_ok-cluster.cluster (max c.args.options.workers 1) c.into_seat-seat.result c.in-Some.nodes.items c.in_ok-cluster.ensures.openings c.in_ok-cluster.ensures.shards c.in_ok-cluster.ensures.tickets
+          are_served g.T.Moments.Gives c.args.moments c.args.config.now c.in_ok-cluster.cluster (max c.args.listening.options.workers 1) c.into_seat-seat.result c.in-Some.nodes.items c.in_ok-cluster.ensures.openings c.in_ok-cluster.ensures.shards c.in_ok-cluster.ensures.tickets
           (at_some c.in_ok-left.left c.in-Some.nodes (λ machines. Ends IsMachineTurn home_in c.in_ok-cluster.cluster c.into_seat-seat.result machines.items) c.in-Some.is c.in_ok-left.ensures.machines)
-          (subst (λ seat. HasSeenCrew g.T.Moments.Gives c.args.moments c.args.config.now c.in_ok-cluster.cluster (max c.args.options.workers 1) seat) (sym c.into_seat-seat.ensures.same) seen)
+          (subst (λ seat. HasSeenCrew g.T.Moments.Gives c.args.moments c.args.config.now c.in_ok-cluster.cluster (max c.args.listening.options.workers 1) seat) (sym c.into_seat-seat.ensures.same) seen)
     ]
