@@ -94,9 +94,7 @@ fn write_own<O: Write>(
     let Some(slot) = tenants.slot_of_name(name) else {
         return Err(RunFault::Refused(PartRefusal::UnknownTenant));
     };
-    let Some(tenant) = tenants.tenant(slot) else {
-        unreachable!()
-    };
+    let tenant = tenants.tenant_in(slot);
     match write_slot(alloc, sink, world, slot, *tenant) {
         Ok(()) => Ok(()),
         Err(RequestError::Refused(_)) => Err(RunFault::WriteFault),

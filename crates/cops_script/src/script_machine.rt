@@ -23,10 +23,7 @@ fn name_at(tenants: &OpenTenants, slot: u64) -> Name
     requires { IsTrue (is_some (open_at slot tenants.now)) }
     ensures { result ≡ open_name tenants.now slot }
 {
-    match tenants.tenant(slot) {
-        Some(tenant) => tenant.name,
-        None => unreachable!(),
-    }
+    tenants.tenant_in(slot).name
 }
 
 /// Appends the answer to a line that names a tenant.

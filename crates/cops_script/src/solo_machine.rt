@@ -64,9 +64,7 @@ fn begin_run<W: Tenancy>(alloc: Global, head: Config, name: &[u8]) -> Result<Sol
             world: None,
         });
     };
-    let Some(tenant) = tenants.tenant(slot) else {
-        unreachable!();
-    };
+    let tenant = tenants.tenant_in(slot);
     let world = begin_alone(alloc, &head, tenant)?;
     Ok(SoloRun {
         head,

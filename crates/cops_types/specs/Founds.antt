@@ -1,5 +1,5 @@
 -- What a reader finds in an entry, and the equality of two of these.
-use Rattle.std.specs.Prelude.{◌≡◌, Bool, true, ◌&&◌, nat_eq}
+use Rattle.std.specs.Prelude.{Bool, ◌&&◌, nat_eq}
 use Rattle.std.specs.Cmp.{first_so, second_so}
 use Rattle.std.specs.Cmp.Lexicographic.{pointwise}
 use Rattle.cops_types.specs.declared.founds.FoundParts.{FoundParts}

@@ -217,6 +217,17 @@ impl OpenTenants {
         }
     }
 
+    /// Returns the tenant of a slot that has one.
+    pub fn tenant_in(&self, slot: u64) -> &Tenant
+        requires { IsTrue (is_some (open_at slot self.now)) }
+        ensures { open_at slot self.now ≡ Some result.now }
+    {
+        match self.tenant(slot) {
+            Some(tenant) => tenant,
+            None => unreachable!(),
+        }
+    }
+
     /// Returns `true` if the slot has an open tenant with this name. At most one slot has.
     fn is_at(&self, place: u64, name: &[u8]) -> bool
         ensures { IsTrue result → open_slot_of_name self.now name.now ≡ Some place }

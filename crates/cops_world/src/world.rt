@@ -223,10 +223,7 @@ impl World {
         ensures good { IsTrue (is_tenant result.now) }
         ensures tabled { slot < self.now.table.slots }
     {
-        match self.tenants.tenant(slot) {
-            Some(tenant) => tenant,
-            None => unreachable!(),
-        }
+        self.tenants.tenant_in(slot)
     }
 
     /// Returns whether a tenant has as many actors as it may.
