@@ -17,7 +17,7 @@ ghost use Rattle.cops_gate.specs.Seats.{AreAtRest, ClosesWith, Extends, HasAllOf
 
 use crate::board::{Beginning, Board, BoardSeat};
 use crate::meetings::{end, fork, hear, learn, note};
-use crate::turns::{draw, serve, wait};
+use crate::turns::{DrawnTicket, draw, serve, wait};
 use crate::waiting::Sleepers;
 use atomic_table::{Closed, Refused, Table};
 use cops_types::{Fault, Machine, RequestError};
@@ -153,19 +153,14 @@ impl<M: Machine> ClusterGate<M> {
         let Some(ticket) = draw(rt, &self.board, sleepers, &mut seat.place, node) else {
             return Err(RequestError::Refused(Fault::GateSpent));
         };
-        let drawn = Snapshot::of(&seat.place);
-        wait(rt, &self.board, sleepers, &mut seat.place, node, ticket);
-        let answer = serve(
-            &self.board,
-            sleepers,
-            &mut seat.place,
+        let drawn = DrawnTicket {
             node,
-            drawn,
-            ticket,
-            slot,
-            moment,
-            call,
-        );
+            number: ticket,
+            seat: Snapshot::of(&seat.place),
+        };
+        wait(rt, &self.board, sleepers, &mut seat.place, node, ticket);
+        let place = &mut seat.place;
+        let answer = serve(&self.board, sleepers, place, drawn, slot, moment, call);
         match answer {
             Ok(reply) => Ok(reply),
             Err(error) => Err(RequestError::from(error)),

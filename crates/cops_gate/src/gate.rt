@@ -163,9 +163,7 @@ fn only_machine<M>(mut machines: Vec<M>) -> M
     requires { (m : _) × (machines.items ≡ m ∷ []) }
     ensures { machines.items ≡ result ∷ [] }
 {
-    let Some(machine) = machines.pop() else {
-        unreachable!()
-    };
+    let machine = machines.take_last();
     machines.destroy_empty();
     machine
 }

@@ -239,8 +239,14 @@ fn publish<M: Machine, T: Said<M::Call, M::Reply>>(
         .store::<Publish<T>>(place, 16 * node + 1, ticket + 1);
 }
 
-// Makes the turn of the ticket that is served; without memory it is a no-op turn. `drawn` is the
-// seat before it waited.
+// A ticket of a node, and the seat as it was when it had drawn it, before it waited.
+pub(crate) struct DrawnTicket<M: Machine> {
+    pub(crate) node: usize,
+    pub(crate) number: u64,
+    pub(crate) seat: Snapshot<BoardSeat<M>>,
+}
+
+// Makes the turn of the ticket that is served; without memory it is a no-op turn.
 //
 // The answer is returned as it comes, and no call is made here that may wait. Looking at the
 // answer, joining two branches or waiting would copy its parts once more.
@@ -248,34 +254,37 @@ pub(crate) fn serve<M: Machine>(
     board: &Board<M>,
     sleepers: &Sleepers,
     place: &mut BoardSeat<M>,
-    node: usize,
-    drawn: Snapshot<BoardSeat<M>>,
-    ticket: u64,
+    drawn: DrawnTicket<M>,
     slot: u64,
     moment: u64,
     call: M::Call,
 ) -> Result<M::Reply, AllocError>
-    requires board { IsSeatAt board.now.shared.table_id board.now.shared.key.value.states.items node
+    requires board { IsSeatAt board.now.shared.table_id board.now.shared.key.value.states.items drawn.node
         place.old }
-    requires ticket { ticket < 2 ^ 62 }
-    requires numbered { (drawn.value.me.0.numbered ≡ true) × (drawn.value.me.1 ≡ []) }
-    requires opened { drawn.value.me.0.opening ≡ Some (start board.now.shared.key.value) }
-    requires gets { GetsAt M.turns M.place board.now.shared.key.value.states.items node ticket
-        drawn.value.me place.old.me }
-    requires fits { (first : M) → get_elem? board.now.shared.key.value.states.items node
+    requires ticket { drawn.number < 2 ^ 62 }
+    requires numbered { (drawn.seat.value.me.0.numbered ≡ true) × (drawn.seat.value.me.1 ≡ []) }
+    requires opened { drawn.seat.value.me.0.opening ≡ Some (start board.now.shared.key.value) }
+    requires gets { GetsAt M.turns M.place board.now.shared.key.value.states.items drawn.node drawn.number
+        drawn.seat.value.me place.old.me }
+    requires fits { (first : M) → get_elem? board.now.shared.key.value.states.items drawn.node
         ≡ some first → M.fits (M.place first) slot call }
     ensures same { (place.new.table_id ≡ place.old.table_id) × (place.new.id ≡ place.old.id) }
-    ensures idle { IsIdle drawn.value.me.0 place.new.me }
+    ensures idle { IsIdle drawn.seat.value.me.0 place.new.me }
     ensures room { HasRoom (Some (start board.now.shared.key.value)) place.new.me.0.seen }
     ensures reply { IfOk result (λ r.
-        Grows M.turns board.now.shared.key.value.states.items drawn.value.me.0.number node
-        drawn.value.me.0.seen (Some (entry slot moment call r)) place.new.me.0.seen) }
+        Grows M.turns board.now.shared.key.value.states.items drawn.seat.value.me.0.number drawn.node
+        drawn.seat.value.me.0.seen (Some (entry slot moment call r)) place.new.me.0.seen) }
     ensures refused { OnErr result (Grows M.turns board.now.shared.key.value.states.items
-        drawn.value.me.0.number node drawn.value.me.0.seen None place.new.me.0.seen) }
+        drawn.seat.value.me.0.number drawn.node drawn.seat.value.me.0.seen None place.new.me.0.seen) }
     ensures lacks { OnErr result
         (LeavesLacking M.turns M.may_lack board.now.shared.key.value.states.items
-        drawn.value.me.0.number node slot call place.new.me.0.seen) }
+        drawn.seat.value.me.0.number drawn.node slot call place.new.me.0.seen) }
 {
+    let DrawnTicket {
+        node,
+        number,
+        seat: _,
+    } = drawn;
     let asked = Snapshot::of(&call);
     let answer = turn_in_slot(board, place, node, slot, moment, call);
     let note = Note {
@@ -284,7 +293,7 @@ pub(crate) fn serve<M: Machine>(
         call: asked,
         answer: Snapshot::of(&answer),
     };
-    publish::<M, Brand>(board, place, node, ticket, note);
-    sleepers.wake(board, node, ticket + 1);
+    publish::<M, Brand>(board, place, node, number, note);
+    sleepers.wake(board, node, number + 1);
     answer
 }

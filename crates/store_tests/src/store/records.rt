@@ -36,11 +36,11 @@ pub(crate) fn keep(
     requires { slot < store.old.tenants }
     ensures { store.new.tenants ≡ store.old.tenants }
 {
-    keep_within(rt, alloc, store, slot, name, clock, now, &QUOTA).expect(rt, "room");
+    try_keep(rt, alloc, store, slot, name, clock, now).expect(rt, "room");
 }
 
 /// Inserts directly after a `reserve`.
-fn keep_within(
+fn try_keep(
     rt: &impl Abort,
     alloc: Global,
     store: &mut Store,
@@ -48,7 +48,6 @@ fn keep_within(
     name: &[u8],
     clock: u64,
     now: u64,
-    quota: &Quota,
 ) -> Result<(), RequestError>
     requires { slot < store.old.tenants }
     ensures { store.new.tenants ≡ store.old.tenants }
@@ -59,7 +58,7 @@ fn keep_within(
         None => {}
         Some(_) => panic!(rt; "a version is kept once"),
     }
-    store.insert(slot, kept, now, quota)
+    store.insert(slot, kept, now, &QUOTA)
 }
 
 /// Returns the clock of what was found; 0 if nothing was.
