@@ -35,10 +35,7 @@ fn is_same_wanted(wanted: Wanted, other: Wanted) -> bool
     ensures { IsTrue result ↔ (wanted ≡ other) }
 {
     match wanted {
-        Wanted::Latest => match other {
-            Wanted::Latest => true,
-            _ => false
-        },
+        Wanted::Latest => matches!(other, Wanted::Latest),
         Wanted::Exactly(version) => match other {
             Wanted::Exactly(other_version) => is_same_version(version, other_version),
             _ => false
@@ -81,10 +78,7 @@ fn is_same_call(call: &NodeCall, other: &NodeCall) -> bool
                 && is_same_version(*version, *other_version),
             _ => false
         },
-        NodeCall::Collect => match other {
-            NodeCall::Collect => true,
-            _ => false
-        },
+        NodeCall::Collect => matches!(other, NodeCall::Collect),
     }
 }
 
@@ -96,18 +90,12 @@ fn is_same_reply(reply: &NodeReply, other: &NodeReply) -> bool
             NodeReply::Found(other_found) => *found == *other_found,
             _ => false
         },
-        NodeReply::Absent => match other {
-            NodeReply::Absent => true,
-            _ => false
-        },
+        NodeReply::Absent => matches!(other, NodeReply::Absent),
         NodeReply::Gone(now) => match other {
             NodeReply::Gone(other_now) => *now == *other_now,
             _ => false
         },
-        NodeReply::NotYet => match other {
-            NodeReply::NotYet => true,
-            _ => false
-        },
+        NodeReply::NotYet => matches!(other, NodeReply::NotYet),
         NodeReply::Stored(version) => match other {
             NodeReply::Stored(other_version) => is_same_version(*version, *other_version),
             _ => false
@@ -120,30 +108,15 @@ fn is_same_reply(reply: &NodeReply, other: &NodeReply) -> bool
             NodeReply::Pulled(other_entry) => *entry == *other_entry,
             _ => false
         },
-        NodeReply::Nothing => match other {
-            NodeReply::Nothing => true,
-            _ => false
-        },
-        NodeReply::Committed => match other {
-            NodeReply::Committed => true,
-            _ => false
-        },
-        NodeReply::Already => match other {
-            NodeReply::Already => true,
-            _ => false
-        },
+        NodeReply::Nothing => matches!(other, NodeReply::Nothing),
+        NodeReply::Committed => matches!(other, NodeReply::Committed),
+        NodeReply::Already => matches!(other, NodeReply::Already),
         NodeReply::OutOfOrder(mark) => match other {
             NodeReply::OutOfOrder(other_mark) => is_same_version(*mark, *other_mark),
             _ => false
         },
-        NodeReply::Acked => match other {
-            NodeReply::Acked => true,
-            _ => false
-        },
-        NodeReply::NotFront => match other {
-            NodeReply::NotFront => true,
-            _ => false
-        },
+        NodeReply::Acked => matches!(other, NodeReply::Acked),
+        NodeReply::NotFront => matches!(other, NodeReply::NotFront),
         NodeReply::Removed(count) => match other {
             NodeReply::Removed(other_count) => *count == *other_count,
             _ => false
