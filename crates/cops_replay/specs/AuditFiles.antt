@@ -1,5 +1,5 @@
 -- The answer to each line of an audit, and the state after it, for any body behind the head.
-use Rattle.std.specs.Prelude.{ℕ, List, ◌≡◌, ◌⊎◌, Bool, true, false, [], Some, None, ⊤}
+use Rattle.std.specs.Prelude.{ℕ, List, ◌≡◌, ◌⊎◌, Bool, true, false, [], Some, None}
 use Rattle.cops_types.specs.declared.configs.Config.{Config}
 use Rattle.cops_types.specs.Counts.{counted}
 use Rattle.cops_types.specs.Head.{Front, AtStart, Within, Begun}
@@ -24,11 +24,6 @@ pub record AuditRules (B R F : Type 0) : Type 1 where
   pub lines : B → LineRules R F
   -- the refusal of a bad head
   pub bad_head : BadConfig → F
-
--- no line has ended the head
-abbrev pub IsFileInHead : {R : Type 0} → AuditFile R → Type 0
-IsFileInHead (Head head) = ⊤
-IsFileInHead (Records state) = ⊥
 
 -- the head is in this layout, and has come this far after this many lines
 abbrev pub IsAtHead : {R : Type 0} → Layout → Front → ℕ → AuditFile R → Type 0

@@ -1,5 +1,5 @@
 -- The effect of each line of an audit of layout 1 that is migrated, and the state after it.
-use Rattle.std.specs.Prelude.{◌≡◌, ℕ, false, List, [], Option, None, Some, IsFalse, IsTrue, ⊤}
+use Rattle.std.specs.Prelude.{◌≡◌, ℕ, false, List, [], Option, None, Some, IsFalse, IsTrue}
 use Rattle.cops_types.specs.Counts.{counted}
 use Rattle.cops_types.specs.declared.faults.Fault.TheVariants.{ClockTooGreat}
 use Rattle.cops_types.specs.Head.{Front, Begun, is_begun}
@@ -43,11 +43,6 @@ RecordRefuses line number (BadConfig bad) = ⊥
 RecordRefuses line number (BadLine bad) = (record_fault line ≡ Some bad.fault) × (bad.line ≡ number)
 
 -- ---- all lines
-
--- no line has ended the head
-abbrev pub IsInOldHead : OldPart → Type 0
-IsInOldHead (Head reader) = ⊤
-IsInOldHead (Records count) = ⊥
 
 abbrev pub part_answers : OldPart → List ℕ → List ℕ → OldPart → Type 0
 part_answers (Head old) line text (Head new) = OldHeadGoesOn old line new × (text ≡ [])

@@ -3,7 +3,7 @@ ghost use Rattle.std.specs.Prelude.{◌≡◌, None, Some, IfErr, IfNone, IfOk, 
 ghost use Rattle.cops_types.specs.Head.{AtStart};
 ghost use Rattle.cops_types.specs.HeadLines.{are_sizes};
 ghost use Rattle.cops_script.specs.LineAnswers.{Answers, IfRefused};
-ghost use Rattle.cops_replay.specs.AuditFiles.{AuditRules, BeginsAfter, GoesOnAfter, IsAtHead, IsFileInHead, head_refuses, rules_in};
+ghost use Rattle.cops_replay.specs.AuditFiles.{AuditRules, BeginsAfter, GoesOnAfter, IsAtHead, head_refuses, rules_in};
 ghost use Rattle.cops_replay.specs.FileHeads.{HaveClocks};
 ghost use Rattle.cops_replay.specs.declared.layouts.Layout.TheVariants.{Early};
 
@@ -91,6 +91,9 @@ pub(crate) fn new_audit<B, R>(body: B) -> AuditMachine<B, R>
 }
 
 /// Reads one more line of a head. Returns the body's state if the line ends the head.
+///
+/// It is not inlined, so that the lines of records need no room for a configuration.
+#[inline(never)]
 fn read_line<B: AuditBody<R>, R>(
     alloc: Global,
     body: &B,
@@ -117,40 +120,6 @@ fn read_line<B: AuditBody<R>, R>(
     }
 }
 
-/// Reads one more line of an audit in its head. If it is the last, the body starts.
-///
-/// It is separate from the lines of records, each of which would otherwise need room for a
-/// configuration.
-#[inline(never)]
-fn read_head_line<B: AuditBody<R>, R: Drop>(
-    alloc: Global,
-    body: &B,
-    file: &mut AuditFile<R>,
-    line: &[u8],
-    out: &mut Vec<u8>,
-) -> Result<(), Stop<B::Refusal>>
-    requires { IsFileInHead file.old }
-    ensures ok { OnOk result (Answers ((rules_in B.rules body.now).answers file.old line.now)
-        file.new out.old.items out.new.items) }
-    ensures err { IfErr result
-        (λ stop. IfRefused stop ((rules_in B.rules body.now).refuses file.old line.now)) }
-{
-    match file {
-        AuditFile::Head(head) => {
-            if tells_today(head, line) {
-                *file = AuditFile::Head(after_layout());
-                return Ok(());
-            }
-            let Some(state) = read_line(alloc, body, head, line, out)? else {
-                return Ok(());
-            };
-            *file = AuditFile::Records(state);
-            Ok(())
-        }
-        AuditFile::Records(_) => unreachable!(),
-    }
-}
-
 impl<B: AuditBody<R>, R: Drop> LineMachine for AuditMachine<B, R> {
     ghost use Rattle.cops_replay.specs.AuditFiles.{audit_rules};
 
@@ -165,7 +134,17 @@ impl<B: AuditBody<R>, R: Drop> LineMachine for AuditMachine<B, R> {
         out: &mut Vec<u8>,
     ) -> Result<(), Stop<B::Refusal>> {
         match &mut self.file {
-            AuditFile::Head(_) => read_head_line(alloc, &self.body, &mut self.file, line, out),
+            AuditFile::Head(head) => {
+                if tells_today(head, line) {
+                    *head = after_layout();
+                    return Ok(());
+                }
+                let Some(state) = read_line(alloc, &self.body, head, line, out)? else {
+                    return Ok(());
+                };
+                self.file = AuditFile::Records(state);
+                Ok(())
+            }
             AuditFile::Records(state) => self.body.line(alloc, state, line, out),
         }
     }

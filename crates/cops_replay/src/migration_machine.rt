@@ -5,7 +5,7 @@ ghost use Rattle.cops_script.specs.LineAnswers.{Answers, IfRefused};
 ghost use Rattle.cops_replay.specs.AuditText.{ended};
 ghost use Rattle.cops_replay.specs.declared.migration_machine.OldPart.TheVariants.{Head};
 ghost use Rattle.cops_replay.specs.MigratedText.{record_fault};
-ghost use Rattle.cops_replay.specs.MigrationRules.{IsInOldHead, OldHeadEnds, OldHeadGoesOn, OldHeadIsRefused, RecordRefuses, part_answers, part_refuses};
+ghost use Rattle.cops_replay.specs.MigrationRules.{OldHeadEnds, OldHeadGoesOn, OldHeadIsRefused, RecordRefuses, part_answers, part_refuses};
 
 use crate::heads::push_head;
 use crate::layouts::{LAST_EARLY_CLOCK, VersionSet};
@@ -43,6 +43,9 @@ pub(crate) fn new_old_audit() -> OldAudit
 
 /// Reads the line of this number in a head of layout 1. Returns the configuration if the line ends
 /// it.
+///
+/// It is not inlined, so that the lines of records need no room for a configuration's reader.
+#[inline(never)]
 fn read_old_head(
     alloc: Global,
     reader: &mut OldConfigReader,
@@ -119,34 +122,6 @@ fn move_record(
     }
 }
 
-/// Appends the answer to the line of this number in a head. If it is the last, the records begin. It
-/// is a function of its own, so that a record's line needs no room for a configuration.
-#[inline(never)]
-fn answer_head(
-    part: &mut OldPart,
-    alloc: Global,
-    line: &[u8],
-    number: u64,
-    out: &mut Vec<u8>,
-) -> Result<(), Stop<MigrationRefusal>>
-    requires { IsInOldHead part.old }
-    ensures ok { OnOk result
-        (Answers (part_answers part.old line.now) part.new out.old.items out.new.items) }
-    ensures err { IfErr result (λ stop. IfRefused stop (part_refuses part.old line.now number)) }
-{
-    match part {
-        OldPart::Head(reader) => {
-            let Some(config) = read_old_head(alloc, reader, line, number)? else {
-                return Ok(());
-            };
-            push_head(out, &config, config.tenants.as_slice())?;
-            *part = OldPart::Records(0);
-            Ok(())
-        }
-        OldPart::Records(_) => unreachable!(),
-    }
-}
-
 /// Appends the answer to the line of this number.
 fn answer_line(
     part: &mut OldPart,
@@ -160,7 +135,14 @@ fn answer_line(
     ensures err { IfErr result (λ stop. IfRefused stop (part_refuses part.old line.now number)) }
 {
     match part {
-        OldPart::Head(_) => answer_head(part, alloc, line, number, out),
+        OldPart::Head(reader) => {
+            let Some(config) = read_old_head(alloc, reader, line, number)? else {
+                return Ok(());
+            };
+            push_head(out, &config, config.tenants.as_slice())?;
+            *part = OldPart::Records(0);
+            Ok(())
+        }
         OldPart::Records(count) => {
             move_record(alloc, line, number, out)?;
             *count = count.saturating_add(1);

@@ -1,5 +1,5 @@
 -- The effect of the lines of a head.
-use Rattle.std.specs.Prelude.{◌≡◌, ℕ, List, [], Some, None, ⊤}
+use Rattle.std.specs.Prelude.{◌≡◌, ℕ, List, [], Some, None}
 use Rattle.cops_types.specs.declared.configs.Config.{Config}
 use Rattle.cops_types.specs.Counts.{counted}
 use Rattle.cops_types.specs.Head.{Front, AtStart, Within, Begun}
@@ -8,11 +8,6 @@ use Rattle.cops_script.specs.declared.scripts.BadConfig.{BadConfig}
 use Rattle.cops_script.specs.declared.scripts.HeadSoFar.{HeadSoFar}
 use Rattle.cops_script.specs.declared.scripts.Script.{Script}
 use Rattle.cops_script.specs.declared.scripts.Script.TheVariants.{Head, Running}
-
--- no line has ended the head
-abbrev pub IsInHead : {W : Type 0} → Script W → Type 0
-IsInHead (Head head) = ⊤
-IsInHead (Running world) = ⊥
 
 -- the head has come this far, with this many lines
 abbrev pub IsHeadAt : {W : Type 0} → Front → ℕ → Script W → Type 0

@@ -4,7 +4,7 @@ ghost use Rattle.cops_types.specs.declared.configs.Config.{Config as Setup};
 ghost use Rattle.cops_types.specs.Head.{AtStart, Begun};
 ghost use Rattle.cops_types.specs.HeadReader.{front_with};
 ghost use Rattle.cops_script.specs.GoodHeads.{HeadContinues};
-ghost use Rattle.cops_script.specs.HeadRules.{IsHeadAt, IsInHead};
+ghost use Rattle.cops_script.specs.HeadRules.{IsHeadAt};
 ghost use Rattle.cops_script.specs.LineAnswers.{IfRefused};
 ghost use Rattle.cops_script.specs.ScriptRules.{head_refuses, rules_in};
 
@@ -36,6 +36,9 @@ pub(crate) fn new_script<B, R>(body: B) -> ScriptMachine<B, R>
 }
 
 /// Reads one more line of a head. Returns the body's state if the line ends the head.
+///
+/// It is not inlined, so that the lines of a running script need no room for a configuration.
+#[inline(never)]
 fn read_line<B: Body<R>, R>(
     alloc: Global,
     body: &B,
@@ -61,35 +64,6 @@ fn read_line<B: Body<R>, R>(
     }
 }
 
-/// Reads one more line of a script in its head. If it is the last, the body starts.
-///
-/// It is separate from the lines of a running script, each of which would otherwise need room for a
-/// configuration and a world.
-#[inline(never)]
-fn read_head_line<B: Body<R>, R: Drop>(
-    alloc: Global,
-    body: &B,
-    script: &mut Script<R>,
-    line: &[u8],
-) -> Result<(), Stop<B::Refusal>>
-    requires { IsInHead script.old }
-    ensures ok { OnOk result
-        ((rules_in B.rules body.now).answers script.old line.now [] script.new) }
-    ensures err { IfErr result
-        (λ stop. IfRefused stop ((rules_in B.rules body.now).refuses script.old line.now)) }
-{
-    match script {
-        Script::Head(head) => {
-            let Some(state) = read_line(alloc, body, head, line)? else {
-                return Ok(());
-            };
-            *script = Script::Running(state);
-            Ok(())
-        }
-        Script::Running(_) => unreachable!(),
-    }
-}
-
 impl<B: Body<R>, R: Drop> LineMachine for ScriptMachine<B, R> {
     ghost use Rattle.cops_script.specs.ScriptRules.{script_rules};
 
@@ -104,7 +78,13 @@ impl<B: Body<R>, R: Drop> LineMachine for ScriptMachine<B, R> {
         out: &mut Vec<u8>,
     ) -> Result<(), Stop<B::Refusal>> {
         match &mut self.script {
-            Script::Head(_) => read_head_line(alloc, &self.body, &mut self.script, line),
+            Script::Head(head) => {
+                let Some(state) = read_line(alloc, &self.body, head, line)? else {
+                    return Ok(());
+                };
+                self.script = Script::Running(state);
+                Ok(())
+            }
             Script::Running(state) => self.body.line(alloc, state, line, out),
         }
     }

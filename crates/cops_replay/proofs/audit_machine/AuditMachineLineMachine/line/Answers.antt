@@ -1,23 +1,23 @@
 use Rattle.std.proofs.Common.{◌≡◌, ℕ, Bool, false, List, [], refl, sym, subst, ◌∙◌, append-nil}
 use Rattle.cops_types.specs.Head.{Within}
-use Rattle.cops_script.specs.LineAnswers.{Answers}
 use Rattle.cops_replay.specs.AuditFiles.{AuditRules, GoesOnAfter, head_answers, line_answers}
 use Rattle.cops_replay.specs.FileHeads.{count_in, layout_in, tells_layout}
 use Rattle.cops_replay.specs.declared.audit_machine.AuditFile.{AuditFile}
 use Rattle.cops_replay.specs.declared.audit_machine.AuditFile.TheVariants.{Head}
 use Rattle.cops_replay.specs.declared.file_heads.FileHead.{FileHead}
-use Rattle.cops_replay.proofs.audit_machine.read_head_line.Goals as goal
+use Rattle.cops_replay.proofs.audit_machine.AuditMachineLineMachine.line.Goals as goal
 
 goes_on : {B R F : Type 0} (rules : AuditRules B R F) (body : B) (file : AuditFile R) (head new : FileHead) (line before after : List ℕ) → file ≡ Head head → tells_layout (layout_in head) (count_in head) line ≡ false →
-    GoesOnAfter head line new before after → Answers {M = AuditFile R} (line_answers rules body file line) (Head new) before after
-goes_on {R = R} rules body file head new line before after at told ((config, found, there), same) = record {
-  text = [];
-  answered = subst (λ (f : AuditFile R). line_answers rules body f line [] (Head new)) (sym at)
-      (subst (λ (b : Bool). head_answers rules body b head line [] (Head new)) (sym told) (Within config, found, (refl, there)));
-  appended = same ∙ sym (append-nil before);
-}
+    GoesOnAfter head line new before after → line_answers rules body file line [] (Head new)
+goes_on {R = R} rules body file head new line before after at told ((config, found, there), same) =
+    subst (λ (f : AuditFile R). line_answers rules body f line [] (Head new)) (sym at)
+    (subst (λ (b : Bool). head_answers rules body b head line [] (Head new)) (sym told) (Within config, found, (refl, there)))
 
 pub returns-in_default-clause-ok : goal.returns-in_default-clause-ok
 returns-in_default-clause-ok g c =
     let more = (rw c.in_default.is at c.in_ok-state-in-Head.ensures.more) in
-    goes_on g.B.AuditBody.rules c.args.body.now c.args.file.now c.in-Head.head c.read_line.new.head c.args.line.now c.args.out.now.items c.read_line.new.out.items c.in-Head.is (sym c.tells_today.ensures ∙ c.if-tells_today.false) more
+    record {
+      text = [];
+      answered = (refl, goes_on g.B.AuditBody.rules c.args.self.now.body c.args.self.now.file c.in-Head.head c.read_line.new.head c.args.line.now c.args.out.now.items c.read_line.new.out.items c.in-Head.is (sym c.tells_today.ensures ∙ c.if-tells_today.false) more);
+      appended = more.1 ∙ sym (append-nil c.args.out.now.items);
+    }

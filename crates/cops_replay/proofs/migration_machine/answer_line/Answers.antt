@@ -3,7 +3,7 @@ use Rattle.cops_script.specs.LineAnswers.{Answers}
 use Rattle.cops_replay.specs.declared.migration_machine.OldPart.{OldPart}
 use Rattle.cops_replay.specs.declared.migration_machine.OldPart.TheVariants.{Head}
 use Rattle.cops_replay.specs.MigrationRules.{part_answers}
-use Rattle.cops_replay.proofs.migration_machine.answer_head.Goals as goal
+use Rattle.cops_replay.proofs.migration_machine.answer_line.Goals as goal
 
 pub returns-in_default-clause-ok : goal.returns-in_default-clause-ok
 returns-in_default-clause-ok c =
