@@ -63,14 +63,10 @@ open_nodes_of config tenants nodes = nodes_at config (open_slots tenants) nodes
 abbrev pub open_audit_of : Config → List (Option Tenant) → List Shared → List ℕ
 open_audit_of config tenants nodes = audit_text (open_config_of config tenants) (open_nodes_of config tenants nodes)
 
--- the slot has no tenant, or each of these nodes has its tenant there, with its first clock and quota
-abbrev pub HaveSlot : List (Option Tenant) → List Shared → ℕ → Type 0
-HaveSlot tenants nodes slot =
-    (tenant : Tenant) → open_at slot tenants ≡ Some tenant → AllByRecursion (λ node. terms_at slot node ≡ Some (terms_of tenant)) nodes
-
--- each of these nodes has each open tenant
+-- each of these nodes has each open tenant in its slot, with its first clock and quota
 abbrev pub HaveTenants : List (Option Tenant) → List Shared → Type 0
-HaveTenants tenants nodes = (slot : ℕ) → HaveSlot tenants nodes slot
+HaveTenants tenants nodes =
+    (slot : ℕ) (tenant : Tenant) → open_at slot tenants ≡ Some tenant → AllByRecursion (λ node. terms_at slot node ≡ Some (terms_of tenant)) nodes
 
 -- these are the configuration's nodes, by number, and in them the slot of each open tenant is that tenant's
 pub record AreNodesOfOpen (config : Config) (tenants : List (Option Tenant)) (nodes : List Shared) : Type 0 where

@@ -1,6 +1,5 @@
 //! The audit of the tenants that are open at the end, as text.
-ghost use Rattle.std.specs.Prelude.{◌≡◌, ◌<◌, ◌↔◌, ℕ, List, length, IfOk, OnOk, IsTrue};
-ghost use Rattle.std.specs.List.{list_all};
+ghost use Rattle.std.specs.Prelude.{◌≡◌, ℕ, List, IfOk, OnOk, IsTrue};
 ghost use Rattle.std.specs.Io.KnownBytes.{Appends};
 ghost use Rattle.cops_types.specs.declared.faults.Fault.TheVariants.{WriteFault};
 ghost use Rattle.cops_types.specs.Counts.{HasRisen};
@@ -8,8 +7,7 @@ ghost use Rattle.cops_types.specs.Head.{Whole, head_of};
 ghost use Rattle.cops_types.specs.HeadLines.{are_sizes};
 ghost use Rattle.cops_types.specs.RequestErrors.{IfRefusal, OnRefusal};
 ghost use Rattle.cops_types.specs.Sink.{AppendsFront, sink_failures, sink_writer};
-ghost use Rattle.cops_node.specs.Parts.{is_opened_as, terms_at};
-ghost use Rattle.cops_replay.specs.OpenAudits.{AreNodesOfOpen, HaveSlot, HaveTenants, open_audit_of, open_config_of, open_nodes_of, open_slots, open_tenants};
+ghost use Rattle.cops_replay.specs.OpenAudits.{AreNodesOfOpen, open_audit_of, open_config_of, open_nodes_of, open_slots, open_tenants};
 ghost use Rattle.cops_replay.specs.WrittenAudits.{AllReplaySame, AreFormed, HaveLines, SaysSame};
 
 use crate::audits::{audits_fit, write_audit_at};
@@ -42,37 +40,6 @@ fn open_slots(alloc: Global, tenants: &[Option<Tenant>]) -> Result<Vec<u64>, All
         }
     }
     Ok(slots)
-}
-
-/// Returns `true` if each of these nodes has a tenant with this one's first clock and quota at the slot.
-fn is_at_each(slot: u64, tenant: &Tenant, nodes: &[Node]) -> bool
-    ensures { result ≡ list_all (λ node. is_opened_as tenant.now (terms_at slot node)) nodes.now }
-{
-    nodes.iter().all(|node| node.opened_as(slot, tenant))
-}
-
-/// Returns `true` if the slot has no tenant, or each of these nodes has its tenant there.
-fn have_slot(tenants: &[Option<Tenant>], slot: usize, nodes: &[Node]) -> bool
-    requires { slot < length tenants.now }
-    ensures { IsTrue result ↔ HaveSlot tenants.now nodes.now slot }
-{
-    match &tenants[slot] {
-        Some(tenant) => is_at_each(slot as u64, tenant, nodes),
-        None => true,
-    }
-}
-
-/// Returns `true` if each of these nodes has each open tenant at its slot, with its first clock and quota.
-pub fn have_tenants(tenants: &OpenTenants, nodes: &[Node]) -> bool
-    ensures { IsTrue result ↔ HaveTenants tenants.now nodes.now }
-{
-    let by_slot = tenants.as_slice();
-    for slot in 0..by_slot.len() {
-        if !have_slot(by_slot, slot, nodes) {
-            return false;
-        }
-    }
-    true
 }
 
 /// Writes the audit of a configuration's nodes, which come by number, for the tenants that are open: as `write_audit` does for
