@@ -5,12 +5,11 @@ use Rattle.std.specs.List.{cons_option}
 use Rattle.std.specs.Option.{option_map}
 use Rattle.cops_types.specs.declared.faults.Fault.TheVariants.{OutOfMemory}
 use Rattle.cops_types.specs.TenantConfig.{TenantConfig}
-use Rattle.cops_model.specs.Log.{LogStep, Replied, Directed, Call}
+use Rattle.cops_model.specs.Log.{Replied, Directed, Call}
 use Rattle.cops_model.specs.Request.{Fetch, next}
 use Rattle.cops_model.specs.Session.{Running, Session, moment_at, request_of}
-use Rattle.cops_model.specs.declared.deliveries.Progress.{Progress as CarrierProgress}
 use Rattle.cops_model.specs.declared.deliveries.Progress.TheVariants as carrier_progress
-use Rattle.cops_model.specs.Carrier.{Carrier, carrier_after, carrier_next, delivery_progress}
+use Rattle.cops_model.specs.Carrier.{Carrier}
 use Rattle.cops_types.specs.Key.{key_eq}
 use Rattle.cops_types.proofs.KeyTests.{key_eq-refl}
 use Rattle.cops_model.specs.declared.acts.Act.{Act}
@@ -18,12 +17,12 @@ use Rattle.cops_model.specs.declared.acts.Act.TheVariants.{Open, Create, Delete,
 use Rattle.cops_model.specs.declared.replies.Reply.{Reply}
 use Rattle.cops_model.specs.declared.replies.Reply.TheVariants.{Refused}
 use Rattle.cops_model.specs.Causal.{Operation, Traced, effect_of, traced_from}
-use Rattle.cops_model.specs.Cluster.{Actor, NamedActor, OfCarrier, OfSession, SoloCluster, actor_step, call_node, carrier_stepped, cluster_step, find_actor, goes_on, most_steps, new_cluster, with_actor, without_actor}
+use Rattle.cops_model.specs.Cluster.{Actor, NamedActor, OfCarrier, OfSession, SoloCluster, actor_step, call_node, cluster_step, find_actor, goes_on, most_steps, new_cluster, without_actor}
 use Rattle.cops_model.specs.Goes.{Goes, Turns}
 use Rattle.cops_model.specs.Lacks.{ActorStops, IsLastRead, Lacks, has_room, StepStops, StepsStop, request_dropped, without_request}
 use Rattle.cops_model.specs.Restarts.{moment_in}
 use Rattle.cops_model.specs.Told.{Contexts, contexts_after, history_told, operation_told, operations_told, operations_told_from}
-use Rattle.cops_causal.proofs.ActorsKeep.{each-without, find_actor-with_actor}
+use Rattle.cops_causal.proofs.ActorsKeep.{each-without}
 use Rattle.cops_causal.proofs.ActorSteps.{as_session}
 use Rattle.cops_causal.proofs.AfterActs.{cluster_step_keeps, step_goes_on, traced_more}
 use Rattle.cops_causal.proofs.Moves.{IsKept, with_operation}
@@ -177,21 +176,3 @@ without_replaced name actor (a ∷ actors) =
       | true ↦ λ is. rw is (rw (key_eq-refl name) (without_replaced name actor actors))
       | false ↦ λ is. rw is (rw is (ap (λ others. a ∷ others) (without_replaced name actor actors)))
     ] refl
-
--- no layer minds it: so the laws would stand as well if a carrier is gone after a call that was made
-pub call_dropped : {config : TenantConfig} {P : SoloCluster → List Traced → Type 0} → IsKept config P → (c : SoloCluster) (ts : List Traced) (name : List ℕ) (k : Carrier) (moment : ℕ) (directed : Directed) →
-    find_actor name c ≡ Some (OfCarrier k) → carrier_next config.shards k.stream k.log ≡ Call directed → P c ts → P (without_actor name (call_node config directed.node moment directed.call c).after) ts
-call_dropped {config} {P} kept c ts name k moment directed found calls p =
-    by_shown (delivery_progress config.shards k step) (kept.carrier_called c ts name k moment directed found calls p)
-  where
-    after : SoloCluster
-    after = (call_node config directed.node moment directed.call c).after
-
-    step : LogStep
-    step = record { moment = moment; outcome = Replied (call_node config directed.node moment directed.call c).reply }
-
-    by_shown : (shown : CarrierProgress) → P (carrier_stepped name (carrier_after k step) shown after).after ts → P (without_actor name after) ts
-    by_shown carrier_progress.Working q =
-        subst (λ actors. P (record { nodes = after.nodes; actors = actors }) ts) (without_replaced name (OfCarrier (carrier_after k step)) after.actors)
-        (kept.carrier_dropped (with_actor name (OfCarrier (carrier_after k step)) after) ts name (carrier_after k step) (find_actor-with_actor name (OfCarrier (carrier_after k step)) (OfCarrier k) after found) q)
-    by_shown (carrier_progress.Done ending) q = q

@@ -392,9 +392,6 @@ no_get words rest name is none = by_rest rest is none
     by_rest (a ∷ []) is none = rw is (by_number (number_of a))
     by_rest (a ∷ b ∷ rest) is none = rw is (rw (no_number a (λ n small e. none n b rest small (ap (λ w. w ∷ b ∷ rest) e))) refl)
 
-pub get_without_keys : (words rest : List (List ℕ)) (name : List ℕ) (n : ℕ) → None ≡ keys_of rest → BeginNamed words name n rest → None ≡ option_and_then with_line (get_of words)
-get_without_keys words rest name n read begin = ap (option_map (λ ks. Get name n ks)) read ∙ get_read words rest name n begin
-
 -- ---- values
 
 seen_inside : (byte : ℕ) → IsTrue (is_between 33 126 byte) → IsTrue (is_inside byte)
@@ -452,11 +449,6 @@ filled_word (byte ∷ word) h = omega arith
 -- whether the words are keys is left to those that are still to come
 abbrev pub AreKeys : List (List ℕ) → List (List ℕ) → Type 0
 AreKeys all rest = (list_all is_word all ≡ list_all is_word rest) × AreUnspaced rest
-
-pub one_key_more : (all rest : List (List ℕ)) (word : List ℕ) (later : List (List ℕ)) → AreKeys all rest → rest ≡ word ∷ later → 0 < length word → AreKeys all later
-one_key_more all rest word later are first some =
-    let inside : AreUnspaced (word ∷ later) = subst AreUnspaced first are.1 in
-    (are.0 ∙ ap (list_all is_word) first ∙ ap (λ t. t && list_all is_word later) (word_inside word some inside.0), inside.1)
 
 pub empty_key : (all rest : List (List ℕ)) (word : List ℕ) (later : List (List ℕ)) → AreKeys all rest → rest ≡ word ∷ later → length word ≡ 0 → None ≡ keys_of all
 empty_key all rest (byte ∷ word) later are first none = absurd (omega arith)

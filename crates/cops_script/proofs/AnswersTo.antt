@@ -1,8 +1,7 @@
 -- What is answered to what tenants say, one line after another.
-use Rattle.std.proofs.Common.{◌≡◌, ℕ, suc, ◌+◌, ◌<◌, List, [], ◌∷◌, length, map, refl, sym, subst, ap, ◌∙◌, arith}
+use Rattle.std.proofs.Common.{◌≡◌, ℕ, suc, ◌+◌, List, [], ◌∷◌, map, refl, sym, subst, ap, ◌∙◌, arith}
 use Rattle.std.specs.Prelude.{slice_get, Some}
-use Rattle.std.proofs.lemmas.Option.{get_or_from_slice_get, slice_get-get_or}
-use Rattle.std.proofs.lemmas.List.{length-map}
+use Rattle.std.proofs.lemmas.Option.{get_or_from_slice_get}
 use Rattle.cops_types.specs.declared.configs.Config.{Config}
 use Rattle.cops_types.specs.TenantConfig.{TenantConfig, tenant_config}
 use Rattle.cops_model.specs.declared.acts.Event.{Event}
@@ -15,10 +14,6 @@ use Rattle.cops_script.proofs.Sequence.{left_from, answers_from, AreThere, answe
 -- the configuration of a slot that has a tenant
 pub config_at-found : (config : Config) (slot : ℕ) (found : TenantConfig) → slice_get (map (tenant_config config) config.tenants) slot ≡ Some found → config_at config slot ≡ found
 config_at-found config slot found e = get_or_from_slice_get (map (tenant_config config) config.tenants) slot found no_config e
-
-pub config_at-there : (config : Config) (slot : ℕ) → slot < length config.tenants → slice_get (map (tenant_config config) config.tenants) slot ≡ Some (config_at config slot)
-config_at-there config slot below =
-    slice_get-get_or (map (tenant_config config) config.tenants) slot no_config (let same = length-map config.tenants (tenant_config config) in omega arith)
 
 -- at first each tenant has yet to get all replies that it gets alone
 told_from-left : (base : ℕ) (list : List TenantConfig) (clusters : ℕ → SoloCluster) (events : List Event) →

@@ -109,9 +109,6 @@ closed_in-finds line name is = ap closed_in is.signed ∙ rw is.named refl
 pub closing_first : (line name : List ℕ) → IsClosingLine line name → first_word line ≡ codes "-"
 closing_first line name is = ap first_word is.signed
 
-pub closed-named : (line name : List ℕ) → closed_in line ≡ Some name → IsTrue (is_name name)
-closed-named line name e = (closed_in-is line name e).named
-
 closed-short : (line name : List ℕ) → closed_in line ≡ Some name → length line ≤ 8192
 closed-short line name e =
     let is = closed_in-is line name e in

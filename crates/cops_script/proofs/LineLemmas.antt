@@ -1,11 +1,8 @@
 -- The lines of a text that is read piece by piece.
-use Rattle.std.proofs.Common.{◌≡◌, ◌≢◌, ℕ, zero, suc, ◌+◌, List, [], ◌∷◌, ◌++◌, length, take, map, min, refl, sym, subst, ap, ◌∙◌, append-nil, add-one, arith}
+use Rattle.std.proofs.Common.{◌≡◌, ◌≢◌, ℕ, zero, suc, ◌+◌, List, [], ◌∷◌, ◌++◌, take, map, refl, sym, subst, ap, ◌∙◌, append-nil, add-one, arith}
 use Rattle.std.specs.Prelude.{◌==◌, false}
 use Rattle.std.specs.List.{AllByRecursion}
 use Rattle.std.proofs.lemmas.List.Elements.{recursion_from_All}
-use Rattle.std.proofs.lemmas.List.{take_min}
-use Rattle.std.proofs.Math.Seq.{take-append-add}
-use Rattle.std.proofs.Math.Nat.{min_comm}
 use Rattle.std.proofs.lemmas.Bool.Decides.{nat_tests}
 use Rattle.cops_types.specs.Lines.{cut_line, cut_lines, IsUnbroken, lines_of, onto_first}
 
@@ -91,9 +88,3 @@ cut_lines-last limit byte bytes h =
 pub cut_lines-nil : (limit : ℕ) → cut_lines limit [] ≡ []
 unfolding lines_of
 cut_lines-nil limit = refl
-
--- what has room is put at the end, and the rest is cut off
-pub cut_line-room : (limit room : ℕ) (front more : List ℕ) → length front + room ≡ limit + 1 → front ++ take (min (length more) room) more ≡ cut_line limit (front ++ more)
-cut_line-room limit room front more h =
-    let fits : take (min (length more) room) more ≡ take room more = ap (λ n. take n more) (min_comm (length more) room) ∙ take_min room more in
-    ap (λ l. front ++ l) fits ∙ sym (take-append-add front more room) ∙ ap (λ n. take n (front ++ more)) h

@@ -1,6 +1,5 @@
 -- Runs go on by lines, by writes, and by pieces.
 use Rattle.std.proofs.Common.{◌≡◌, ◌≢◌, ℕ, ◌+◌, List, [], ◌∷◌, ◌++◌, Option, Result, Ok, Err, OnOk, true, false, arith, refl, sym, subst, ap, ◌∙◌, append_assoc, append-nil}
-use Rattle.std.specs.Io.KnownBytes.{Appends}
 use Rattle.std.proofs.KnownBytes.{Appends-nil, Appends-trans}
 use Rattle.std.proofs.lemmas.List.Elements.{All-append, All-take}
 use Rattle.std.proofs.lemmas.List.{length-take}
@@ -161,13 +160,6 @@ module _ {M F : Type 0} (rules : LineRules M F) where
       split = p.split;
       advanced = Advances-written start p.lines machine waiting rest old new p.advanced written;
     }
-
-    pub Answered-drained : (bytes : List ℕ) (start : Stage M) (left : List ℕ) (machine : M) (waiting rest : List ℕ) (old new : Option (List ℕ))
-        → Answered rules limit bytes start left (stage machine waiting old) → Appends old new waiting → rest ≡ []
-        → Answered rules limit bytes start left (stage machine rest new)
-    Answered-drained bytes start left machine waiting rest old new p written empty =
-        Answered-written bytes start left machine waiting rest old new p
-        (record { written = waiting; whole = sym (append-nil waiting) ∙ ap (λ l. waiting ++ l) (sym empty); appended = written })
 
     pub Answered-cut : (bytes : List ℕ) (start now : Stage M) (front rest new_front : List ℕ) → Answered rules limit bytes start (front ++ rest) now
         → IsUnbroken front → IsUnbroken rest → new_front ≡ cut_line limit (front ++ rest) → Answered rules limit bytes start new_front now

@@ -41,10 +41,6 @@ whole_apart (line ∷ lines) number (Within old) config rest apart e = by (front
     by None is on e = cc
     by (Some next) is on e = on next (follows_apart (Within old) line next apart (front_after-is (Within old) line next is)) e
 
--- nor two tenants of the head of a text
-pub head_apart : (lines : List (List ℕ)) (config : Config) (rest : List (List ℕ)) → head_of lines ≡ Whole config rest → AreApart config.tenants
-head_apart lines config rest head = whole_apart lines 1 AtStart config rest none_apart head
-
 -- a whole head is within the limits
 whole_good : (lines : List (List ℕ)) (number : ℕ) (front : Front) (config : Config) (rest : List (List ℕ)) → IsTrue (is_front_good (Some front)) → reading_from lines number front ≡ Whole config rest → IsTrue (is_good config)
 whole_good [] number AtStart config rest good e = cc

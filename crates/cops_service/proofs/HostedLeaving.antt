@@ -1,35 +1,19 @@
 -- Nodes at which tenants came and went are what histories leave.
-use Rattle.std.proofs.Common.{◌≡◌, ◌*◌, ◌<◌, ◌∙◌, ℕ, zero, suc, List, [], ◌∷◌, length, map, arith, refl, sym, ap, subst, Option, Some, None, get_or}
+use Rattle.std.proofs.Common.{◌≡◌, ◌*◌, ◌<◌, ◌∙◌, ℕ, zero, suc, List, [], ◌∷◌, length, map, arith, refl, sym, ap, Some, get_or}
 use Rattle.std.specs.Prelude.{slice_get}
-use Rattle.std.specs.List.{AllByRecursion}
 use Rattle.std.proofs.lemmas.List.FromFn.{length-map-range_with_len, get_or-map-range_with_len}
 use Rattle.std.proofs.lemmas.Option.{get_or_from_slice_get, slice_get_within}
-use mathlib.Core.Option.{some, some-injective, some-ne-none}
+use mathlib.Core.Option.{some}
 use lib.ListN.{get_elem?}
 use Rattle.cops_types.specs.declared.configs.Config.{Config}
-use Rattle.cops_gate.specs.History.{Leads, turns_at}
+use Rattle.cops_gate.specs.History.{turns_at}
 use Rattle.cops_node.specs.Clusters.{id_of, new_nodes, new_shared}
-use Rattle.cops_node.specs.Hosting.{Hosted, IsSlotTurn, host_in}
+use Rattle.cops_node.specs.Hosting.{Hosted, host_in}
 use Rattle.cops_node.specs.Parts.{Shared, home_in, home_of}
 use Rattle.cops_node.specs.declared.Home.{Home}
-use Rattle.cops_service.specs.Gates.{Ends, Gates, openings}
-use Rattle.cops_service.specs.Hosted.{HostedLog}
-use Rattle.cops_service.specs.HostedDesks.{HostedSeat, IsInFirstLives, hosted_node, nodes_in}
-use Rattle.cops_service.specs.HostedLeft.{AreLeftByLives, LeavesEachHosted}
+use Rattle.cops_service.specs.HostedDesks.{hosted_node}
+use Rattle.cops_service.specs.HostedLeft.{AreLeftByLives}
 use Rattle.cops_service.proofs.Hosted.{stays_there}
-
--- what a cluster leaves that is closed
-pub left_by_lives : (config : Config) (cluster : Gates Hosted) (seat : HostedSeat) (hosted : List Hosted) (nodes : List Shared) → openings (nodes_in cluster) ≡ (new_nodes config).nodes → AllByRecursion IsInFirstLives (openings cluster)
-    → Ends IsSlotTurn host_in cluster seat hosted → map hosted_node hosted ≡ nodes → AreLeftByLives config nodes
-left_by_lives config cluster seat hosted nodes opened lives h are = record {
-  opening = openings cluster;
-  opened = opened;
-  lives = lives;
-  left = hosted;
-  nodes_are = are;
-  log = h.1;
-  leaves = (h.0, (λ n first node at there. (h.5 n first node at there).0));
-}
 
 -- ---- they stay in their places
 

@@ -89,10 +89,6 @@ module _ {N M : Type 0} (Calls : N → NodeId → ℕ → ℕ → NodeCall → N
 pub spent : Action → List LogStep → ℕ
 spent action log = (attempt_of action log).restarts * 65 + length (attempt_of action log).steps
 
-pub spent-none : (action : Action) → spent action [] ≡ 0
-unfolding spent
-spent-none action = refl
-
 spent-push : (action : Action) (log : List LogStep) (step : LogStep) → length (attempt_of action log).steps ≤ 64 → spent action log + 1 ≤ spent action (log ++ step ∷ [])
 unfolding spent
 spent-push action log step few =

@@ -89,9 +89,6 @@ actor_in-joined_other name other actor (a ∷ actors) apart = by_test (key_eq a.
 
 -- ---- names
 
-abbrev lacks : List ℕ → List NamedActor → Bool
-lacks name actors = not (list_any (λ a. key_eq a.name name) actors)
-
 absent_lacks : (name : List ℕ) (actors : List NamedActor) → actor_in name actors ≡ None → list_any (λ (a : NamedActor). key_eq a.name name) actors ≡ false
 absent_lacks name [] absent = refl
 absent_lacks name (a ∷ actors) absent = by_test (key_eq a.name name)
@@ -210,10 +207,6 @@ module _ {A : Type 0} (Stands : A → Actor → Type 0) (name : List ℕ) (befor
         (λ apart. rw (others other apart, actor_in-without name other cluster.actors apart) (h.same other));
     distinct = distinct-without name cluster.actors h.distinct;
   }
-
--- the other actor is found in its place
-pub found_again : (name : List ℕ) (actor old : Actor) (cluster : SoloCluster) → find_actor name cluster ≡ Some old → find_actor name (with_actor name actor cluster) ≡ Some actor
-found_again name actor old cluster found = actor_in-replaced name actor cluster.actors ∙ ap (option_map (λ a. actor)) found
 
 -- how many there are then
 pub count-with_actor : (name : List ℕ) (actor : Actor) (cluster : SoloCluster) → length (with_actor name actor cluster).actors ≡ length cluster.actors

@@ -1,5 +1,5 @@
 -- Puts and gets whose keys and values are some, and those that are refused for them.
-use Rattle.std.proofs.Common.{◌≡◌, ℕ, Bool, true, false, not, cond, ◌&&◌, List, [], ◌∷◌, ◌++◌, length, refl, sym, subst, ap, ◌∙◌, append_assoc, append-nil, true≢false, arith}
+use Rattle.std.proofs.Common.{◌≡◌, ℕ, Bool, true, false, not, cond, ◌&&◌, List, [], ◌∷◌, ◌++◌, length, refl, sym, subst, ap, ◌∙◌, append_assoc, true≢false, arith}
 use Rattle.std.specs.Prelude.{◌≢◌, IfOk, Some, None, Result, Ok, Err, nat_lt}
 use Rattle.std.specs.declared.alloc.AllocError.{AllocError}
 use Rattle.std.specs.List.{list_all}
@@ -7,7 +7,7 @@ use Rattle.std.proofs.lemmas.List.Folds.{list_all-append}
 use Rattle.std.proofs.lemmas.Bool.{leb-false, lt-leb, lt-ltb, ltb-true}
 use Rattle.std.proofs.lemmas.Bool.Decides.{nat_tests}
 use Rattle.cops_types.specs.declared.faults.Fault.{Fault}
-use Rattle.cops_types.specs.declared.faults.Fault.TheVariants.{Syntax, BadKey, ValueTooLong}
+use Rattle.cops_types.specs.declared.faults.Fault.TheVariants.{BadKey, ValueTooLong}
 use Rattle.cops_types.specs.declared.request_errors.RequestError.{RequestError}
 use Rattle.cops_types.specs.declared.request_errors.RequestError.TheVariants.{OutOfMemory as Lacking, Refused as RefusedWith}
 use Rattle.cops_types.specs.Key.{is_key}
@@ -16,8 +16,8 @@ use Rattle.cops_types.specs.RequestErrors.{AnswersUnless, fault_told}
 use Rattle.cops_types.specs.Search.{first_refusal}
 use Rattle.cops_types.specs.Value.{is_value, is_too_long}
 use Rattle.cops_types.specs.Words.{no_words}
-use Rattle.cops_model.specs.Request.{Write, Fetch}
-use Rattle.cops_model.specs.Session.{get_refusal, request_begun, session_put_refusal}
+use Rattle.cops_model.specs.Request.{Write}
+use Rattle.cops_model.specs.Session.{request_begun, session_put_refusal}
 use Rattle.cops_model.specs.declared.acts.Act.TheVariants as acts
 use Rattle.cops_model.specs.declared.replies.Reply.{Reply}
 use Rattle.cops_model.specs.declared.replies.Reply.TheVariants.{Started, Refused}
@@ -57,16 +57,6 @@ keys_so_far slices made left more later slice key are first good e =
       are.0 ∙ (λ i. made ++ first i) ∙ sym (append_assoc made (slice ∷ []) later) ∙ (λ i. (made ++ sym is.0 i ∷ []) ++ later) ∙ ap (λ ks. ks ++ later) (sym e),
       ap (list_all is_key) e ∙ list_all-append is_key made (key ∷ []) ∙ (λ i. are.1 i && (is_key (is.0 i) && true)) ∙ ap (λ t. t && true) is.1,
     )
-
-pub keys_fail : (slices made left later : List (List ℕ)) (slice : List ℕ) (fault : Fault) → AreKeysOf slices made left → left ≡ slice ∷ later → Err fault ≡ key_or_fault slice → (fault ≡ BadKey) × (list_all is_key slices ≡ false)
-keys_fail slices made left later slice fault are first bad =
-    let is = bad_key slice fault bad in
-    (is.0, ap (list_all is_key) (are.0 ∙ ap (λ ls. made ++ ls) first) ∙ list_all-append is_key made (slice ∷ later) ∙ (λ i. are.1 i && (is.1 i && list_all is_key later)))
-
-pub keys_end : (slices made left : List (List ℕ)) → AreKeysOf slices made left → left ≡ [] → (made ≡ slices) × (list_all is_key slices ≡ true)
-keys_end slices made left are none =
-    let same : slices ≡ made = are.0 ∙ ap (λ ls. made ++ ls) none ∙ append-nil made in
-    (sym same, ap (list_all is_key) same ∙ are.1)
 
 -- ---- values
 
@@ -127,24 +117,3 @@ counts_none (key ∷ keys) t is = some ∙ is
   where
     some : nat_lt (length (key ∷ keys)) 1 ≡ false
     some = grind (arith, nat_tests)
-
-module _ (old : World) (slot : ℕ) (name : List ℕ) (number : ℕ) (keys : List (List ℕ)) where
-  abbrev get_if : Bool → Bool → SoloCluster → ActEffect
-  get_if none all cluster =
-      let config = config_in old.setup slot in
-      unless_refused (first_refusal ((none, Syntax) ∷ (not all, BadKey) ∷ [])) cluster
-      (on_session (find_session name cluster) cluster λ s.
-      unless_refused (get_refusal config number keys s) cluster
-      (reply_with Started (with_actor name (OfSession (request_begun number (Fetch keys) s)) cluster)))
-
-  pub no_key_moves : nat_lt (length keys) 1 ≡ true → Moves AnyReply (λ config. cluster_step config (acts.Get name number keys)) old slot (Ok (Refused Syntax)) old
-  no_key_moves none = refused_moves AnyReply (λ config. cluster_step config (acts.Get name number keys)) old slot Syntax (λ cluster h. ap (λ b. get_if b (list_all is_key keys) cluster) none)
-
-  pub bad_keys_moves : (fault : Fault) → nat_lt (length keys) 1 ≡ false → fault ≡ BadKey → list_all is_key keys ≡ false → Moves AnyReply (λ config. cluster_step config (acts.Get name number keys)) old slot (Ok (Refused fault)) old
-  bad_keys_moves fault some is bad = refused_moves AnyReply (λ config. cluster_step config (acts.Get name number keys)) old slot fault
-      (λ cluster stands. (λ i. get_if (some i) (bad i) cluster) ∙ ap (λ f. reply_with (Refused f) cluster) (sym is))
-
-  pub get_moves : nat_lt (length keys) 1 ≡ false → list_all is_key keys ≡ true → (answered : Result Reply AllocError) (new : World) → Moves AnyReply (λ config. deed_step config name (deeds.Get number keys)) old slot answered new →
-      Moves AnyReply (λ config. cluster_step config (acts.Get name number keys)) old slot answered new
-  get_moves some all answered new = same_moves AnyReply (λ config. deed_step config name (deeds.Get number keys)) (λ config. cluster_step config (acts.Get name number keys)) old slot answered new
-      (λ cluster i. get_if (sym some i) (sym all i) cluster)

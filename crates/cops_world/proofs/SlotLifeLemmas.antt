@@ -1,7 +1,7 @@
 -- The lives of a slot, event by event: in a world of all tenants, and in worlds of their own.
-use Rattle.std.proofs.Common.{◌≡◌, ◌≢◌, ℕ, zero, suc, ◌-◌, ◌<◌, ◌≤◌, ◌==◌, ◌||◌, ◌&&◌, Bool, true, false, cond, drop, take, inl, inr, List, [], ◌∷◌, ◌++◌, length, length-append, length-set, map, refl, sym, subst, ap, ◌∙◌, append_assoc, append-nil, true≢false, arith}
-use Rattle.std.specs.Prelude.{IsTrue, is_some, Option, Some, None, Result, replicate}
-use Rattle.std.specs.List.{list_all, list_any}
+use Rattle.std.proofs.Common.{◌≡◌, ◌≢◌, ℕ, zero, suc, ◌-◌, ◌<◌, ◌≤◌, ◌==◌, ◌||◌, Bool, true, false, cond, drop, take, inl, inr, List, [], ◌∷◌, ◌++◌, length, length-append, length-set, map, refl, sym, subst, ap, ◌∙◌, append_assoc, append-nil, true≢false, arith}
+use Rattle.std.specs.Prelude.{is_some, Option, Some, None, Result, replicate}
+use Rattle.std.specs.List.{list_any}
 use Rattle.std.specs.declared.alloc.AllocError.{AllocError}
 use Rattle.std.specs.Option.{option_map, option_to_list}
 use Rattle.std.proofs.lemmas.Bool.Decides.{Decides-eqb}
@@ -10,7 +10,7 @@ use Rattle.cops_types.specs.declared.configs.Config.{Config}
 use Rattle.cops_types.specs.declared.configs.Tenant.{Tenant}
 use Rattle.cops_types.specs.declared.faults.Fault.{Fault}
 use Rattle.cops_types.specs.declared.faults.Fault.TheVariants.{OutOfMemory, UnknownTenant}
-use Rattle.cops_types.specs.HeadLines.{are_sizes, is_tenant, most_tenants}
+use Rattle.cops_types.specs.HeadLines.{most_tenants}
 use Rattle.cops_types.specs.OpenSlots.{admission_refusal, begun_with, open_at}
 use Rattle.cops_types.specs.TenantConfig.{TenantConfig, tenant_config}
 use Rattle.cops_model.specs.declared.acts.Act.{Act}
@@ -26,7 +26,6 @@ use Rattle.cops_model.specs.Setups.{Setup, config_in, config_of, new_setup, with
 use Rattle.cops_script.specs.Acting.{HasActed, HasAdmitted, HasClosed, HasStayed, IsNew, told_act}
 use Rattle.cops_script.specs.Answers.{Answer, ToHost, ToTenant}
 use Rattle.cops_script.specs.Doing.{IsDone, IsHosted}
-use Rattle.cops_script.specs.GoodHeads.{is_good}
 use Rattle.cops_script.specs.Said.{Admits, Closes, Refuses, Said, OfHost, Acts, tenants_after}
 use Rattle.cops_script.proofs.BegunSetups.{config_begun, within_open}
 use Rattle.cops_script.proofs.MainLemmas.{causal_run}
@@ -72,14 +71,6 @@ drop_whole (suc n) (x ∷ xs) long = drop_whole n xs (omega (arith, long))
 
 pub rest_whole : {A : Type 0} (xs : List A) (n : ℕ) → take (length xs - n) (drop n xs) ≡ drop n xs
 rest_whole xs n = let size = length-drop n xs in taken_whole (length xs - n) (drop n xs) (omega (arith, size))
-
--- the configuration with a good tenant alone is good
-pub lone_good : (config : Config) (tenant : Tenant) → IsTrue (is_good config) → IsTrue (is_tenant tenant) → IsTrue (is_good (with_tenant_alone config tenant))
-lone_good config tenant good own = let sizes = front_of (are_sizes config) (list_all is_tenant config.tenants) good in (λ i. sizes i && (own i && true))
-  where
-    front_of : (a b : Bool) → (a && b) ≡ true → a ≡ true
-    front_of true b h = refl
-    front_of false b h = absurd (true≢false (sym h))
 
 -- the reply behind an answer
 told_back : (slot : ℕ) (told : LifeReply) (answer : Answer) → answer_at slot told ≡ answer → told ≡ reply_of answer
@@ -444,13 +435,6 @@ module _ (config : Config) (slot : ℕ) (events : List HostEvent) where
           alone = paired_more (IsLivedAlone config) p.past told life one p.alone alone;
           splits = p.splits ∙ ap (λ ls. p.past ++ ls) (from_next (Some tenant) is) ∙ sym (append_assoc p.past (life ∷ []) (lives_from slot next later));
         }
-
-  -- all were found
-  pub lives_end : (tenants : List (Option Tenant)) (rest : List HostEvent) (found : List Tenant) (told : List (List Reply)) → rest ≡ [] → AreLivesSoFar config slot events tenants rest found told →
-      (found ≡ map (λ (life : Life). life.tenant) (lives_at config slot events)) × AllPaired (IsLivedAlone config) (lives_at config slot events) told
-  lives_end tenants rest found told none p =
-      let all : p.past ≡ lives_at config slot events = sym (p.splits ∙ ap (λ es. p.past ++ lives_from slot tenants es) none ∙ append-nil p.past) in
-      (p.tenants_are ∙ ap (map (λ (life : Life). life.tenant)) all, subst (λ ls. AllPaired (IsLivedAlone config) ls told) all p.alone)
 
 -- ---- both
 

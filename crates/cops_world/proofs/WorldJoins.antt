@@ -59,13 +59,6 @@ module _ (old : World) (slot : ℕ) (name : List ℕ) (solo : Actor) (reply : Re
       let found = found_too (ActorStandsFor (config_in old.setup slot)) name (λ n. old.actors (id_of slot n)) (λ n. old.actors (id_of slot n)) cluster h.actors_are kept there in
       ap (λ o. unless_refused (first_refusal ((not true, NoSuchPlace) ∷ (is_some o, NameTaken) ∷ (nat_le (config_in old.setup slot).quota.actors (length cluster.actors), ActorsFull) ∷ [])) cluster (reply_with reply (with_new_actor name solo cluster))) found.1
 
-  full_refuses : old.actors (id_of slot name) ≡ None → nat_le (config_in old.setup slot).quota.actors (old.count slot) ≡ true → (cluster : SoloCluster) → ClusterStandsAt old slot cluster →
-      join_step name solo reply (config_in old.setup slot) cluster ≡ reply_with (Refused ActorsFull) cluster
-  full_refuses none full cluster h =
-      let gone = absent_too (ActorStandsFor (config_in old.setup slot)) name (λ n. old.actors (id_of slot n)) (λ n. old.actors (id_of slot n)) cluster h.actors_are none in
-      (λ i. unless_refused (first_refusal ((not true, NoSuchPlace) ∷ (is_some (gone i), NameTaken) ∷ (nat_le (config_in old.setup slot).quota.actors (sym h.count_is i), ActorsFull) ∷ [])) cluster (reply_with reply (with_new_actor name solo cluster)))
-      ∙ ap (λ b. unless_refused (first_refusal ((not true, NoSuchPlace) ∷ (false, NameTaken) ∷ (b, ActorsFull) ∷ [])) cluster (reply_with reply (with_new_actor name solo cluster))) full
-
   pub room_joins : old.actors (id_of slot name) ≡ None → nat_le (config_in old.setup slot).quota.actors (old.count slot) ≡ false → (cluster : SoloCluster) → ClusterStandsAt old slot cluster →
       join_step name solo reply (config_in old.setup slot) cluster ≡ reply_with reply (with_new_actor name solo cluster)
   room_joins none room cluster h =
@@ -75,9 +68,6 @@ module _ (old : World) (slot : ℕ) (name : List ℕ) (solo : Actor) (reply : Re
 
   pub taken_moves : (kept : Kept) → old.actors (id_of slot name) ≡ Some kept → Moves AnyReply (join_step name solo reply) old slot (Ok (Refused NameTaken)) old
   taken_moves kept there = refused_moves AnyReply (join_step name solo reply) old slot NameTaken (taken_refuses kept there)
-
-  pub full_moves : old.actors (id_of slot name) ≡ None → nat_le (config_in old.setup slot).quota.actors (old.count slot) ≡ true → Moves AnyReply (join_step name solo reply) old slot (Ok (Refused ActorsFull)) old
-  full_moves none full = refused_moves AnyReply (join_step name solo reply) old slot ActorsFull (full_refuses none full)
 
   pub join_moves : (kept : Kept) (actors : ActorId → Option Kept) (count : ℕ → ℕ) → ActorStandsFor (config_in old.setup slot) kept solo → old.actors (id_of slot name) ≡ None →
       nat_le (config_in old.setup slot).quota.actors (old.count slot) ≡ false → count slot ≡ old.count slot + 1 → ((other : ℕ) → slot ≢ other → count other ≡ old.count other) →

@@ -1,5 +1,5 @@
 -- A tenant comes to a world, or goes from it.
-use Rattle.std.proofs.Common.{◌≡◌, ◌≢◌, ◌⊎◌, inl, inr, ℕ, zero, suc, ◌<◌, ◌≤◌, Bool, true, false, true≢false, ◌&&◌, ◌||◌, List, [], ◌∷◌, length, map, set, refl, sym, subst, ap, ◌∙◌, arith}
+use Rattle.std.proofs.Common.{◌≡◌, ◌≢◌, inl, inr, ℕ, zero, suc, ◌<◌, ◌≤◌, Bool, true, false, true≢false, ◌&&◌, ◌||◌, List, [], ◌∷◌, length, map, set, refl, sym, subst, ap, ◌∙◌, arith}
 use Rattle.std.specs.Prelude.{Option, Some, None, IsTrue, IfNone, IfOk, IfSome, is_ok, is_some, nat_le, replicate, Result, Ok, Err, IsOk, OnErr, OnOk}
 use Rattle.std.specs.declared.alloc.AllocError.{AllocError}
 use Rattle.std.specs.List.{AllByRecursion, list_any}
@@ -97,13 +97,6 @@ clock_within tenant good =
     right : (a b : Bool) → (a && b) ≡ true → b ≡ true
     right true b h = h
     right false b h = absurd (true≢false (sym h))
-
--- nothing changed
-pub stays_same : (old : KeptWorld) (tenants : List (Option Tenant)) → tenants ≡ old.setup.tenants →
-    StaysOpen old (record { setup = record { head = old.setup.head; tenants = tenants }; nodes = old.nodes; table = old.table })
-stays_same old tenants same =
-    subst (λ (ts : List (Option Tenant)). StaysOpen old (record { setup = record { head = old.setup.head; tenants = ts }; nodes = old.nodes; table = old.table })) (sym same)
-    (record { setup_is = refl; clusters = λ slot cluster h. h })
 
 -- the table gave it back where memory was refused elsewhere
 pub closed_again : (result : Result (Unit {0}) Fault) (old mid new : List (Option Tenant)) (slot : ℕ) (tenant : Tenant) → slot < length old → open_at slot old ≡ None → mid ≡ set old slot (Some tenant) →
