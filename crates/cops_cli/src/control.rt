@@ -11,18 +11,12 @@ use std::thread;
 use std::thread::Threads;
 use std::time::Clock;
 
-/// The most bytes of one read.
-const PIECE: usize = 4096;
-
 // ---- any reader of lines
 
 /// Follows the bytes of standard input.
 pub(crate) trait Follows {
     /// Takes a byte.
     fn take(&mut self, byte: u8);
-
-    /// Takes note that all bytes of one read were taken.
-    fn rest(&mut self);
 
     /// Takes the end of the input.
     fn finish(&mut self);
@@ -31,7 +25,7 @@ pub(crate) trait Follows {
 /// Follows standard input to its end.
 pub(crate) fn follow_all<R: Input, F: Follows>(rt: &R, follower: &mut F) {
     let mut reader = rt.reader();
-    let mut buffer = [0u8; PIECE];
+    let mut buffer = [0u8; 256];
     for _ in 0..u64::MAX {
         match reader.read(&mut buffer) {
             Ok(0) => break,
@@ -39,7 +33,6 @@ pub(crate) fn follow_all<R: Input, F: Follows>(rt: &R, follower: &mut F) {
                 for byte in &buffer[..count] {
                     follower.take(*byte);
                 }
-                follower.rest();
             }
             Err(error) if error.kind() == ErrorKind::Interrupted => (),
             Err(_) => break,
@@ -98,8 +91,6 @@ impl<R: Eprint + Clock> Follows for Ending<'_, R> {
             self.line.push(byte);
         }
     }
-
-    fn rest(&mut self) {}
 
     fn finish(&mut self) {
         self.end();

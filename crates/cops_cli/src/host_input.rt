@@ -114,7 +114,6 @@ impl<R: Clock> HostInput<'_, R> {
                 Ok(()) => return,
                 Err(back) => line = back,
             }
-            self.lines.wake();
             thread::sleep(self.rt, Duration::from_millis(PAUSE));
         }
     }
@@ -129,13 +128,8 @@ impl<R: Clock> Follows for HostInput<'_, R> {
         }
     }
 
-    fn rest(&mut self) {
-        self.lines.wake();
-    }
-
     fn finish(&mut self) {
         self.hand_on();
-        self.lines.wake();
     }
 }
 

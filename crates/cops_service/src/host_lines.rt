@@ -72,8 +72,6 @@ impl HostLines {
 
     /// Hands a line of standard input on to the service's host, and never waits. Gives the line back if there is no room for it
     /// now, or another thread uses the list: offer it again a little later. A line that comes after the service is ignored.
-    ///
-    /// A host that waits for lines follows it after `wake`.
     pub fn offer(&self, line: HostLine) -> Result<(), HostLine>
         ensures { IfErr result (λ back. back ≡ line) }
     {
@@ -87,12 +85,9 @@ impl HostLines {
             return Err(line);
         }
         waiting.push(line);
-        Ok(())
-    }
-
-    /// Wakes the service's host, if it waits for lines.
-    pub fn wake(&self) {
+        drop(waiting);
         self.changed.notify_all();
+        Ok(())
     }
 
     /// Waits for lines, and moves all of them into this empty list. Returns `false` if none will follow.
@@ -102,7 +97,10 @@ impl HostLines {
             waiting.lines.is_empty() && !waiting.is_over
         });
         mem::swap(&mut waiting.lines, taken);
-        !waiting.is_over
+        let goes_on = !waiting.is_over;
+        drop(waiting);
+        self.changed.notify_all();
+        goes_on
     }
 
     /// Returns an empty list with room for all lines that may wait.
