@@ -4,5 +4,5 @@ use Rattle.std.specs.List.{fold}
 use Rattle.cops_store.specs.Chains.{earlier}
 use Rattle.cops_store.proofs.chain.oldest_in.Given as goal
 
-abbrev pub invariant-loop-kept : goal.invariant-loop-kept
-invariant-loop-kept l = l.oldest ≡ fold (λ o k. earlier o k.stale) None (take l.kept-index l.older)
+abbrev pub invariant-loop-i : goal.invariant-loop-i
+invariant-loop-i l = l.oldest ≡ fold (λ o k. earlier o k.stale) None (take l.i l.older.items)

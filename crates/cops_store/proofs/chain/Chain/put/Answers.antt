@@ -1,27 +1,28 @@
-use Rattle.std.proofs.Common.{arith, ◌≡◌, ◌∙◌, ap, sym, subst, length, ◌++◌, ◌∷◌, [], true, false, vec_len}
+use Rattle.std.proofs.Common.{arith, refl, ◌≡◌, ◌∙◌, ap, sym, subst, length, ◌++◌, ◌∷◌, [], true, false, deque_len}
 use Rattle.std.specs.Prelude.{Some}
 use Rattle.std.specs.List.{insert, prefix_len}
 use Rattle.cops_types.specs.Version.{version_lt}
 use Rattle.cops_types.specs.declared.records.Record.{Record}
+use Rattle.cops_types.specs.declared.records.Dated.{Dated}
+use Rattle.std.proofs.lemmas.List.Edits.{insert_end}
 use Rattle.cops_types.proofs.VersionOrder.{version_cmp-lt}
-use Rattle.cops_store.specs.Chains.{Ascends, KeptChain, Rises, fresh_row, is_below, latest_row, placed}
+use Rattle.cops_store.specs.Chains.{AreStaleInOrder, KeptChain, Rises, fresh_row, is_below, latest_row, placed}
 use Rattle.cops_store.proofs.Chains.{ascends_front, placed_after, placed_among, prefix_within}
 use Rattle.cops_store.proofs.chain.Chain.put.Goals as goal
 
 pub place_of-i-requires : goal.place_of-i-requires
-place_of-i-requires c = subst Ascends (sym c.deref.ensures.value) (ascends_front c.self.inside.older.items (latest_row c.self.inside.latest) (subst (λ (k : KeptChain). Rises k.items) (sym c.self.view_is) c.requires.chain))
+place_of-i-requires c = ascends_front c.self.inside.older.items (latest_row c.self.inside.latest) (subst (λ (k : KeptChain). Rises k.items) (sym c.self.view_is) c.requires.chain)
 
 pub insert-requires : goal.insert-requires
 insert-requires c =
-    let len : vec_len c.self.inside.older ≡ length c.self.inside.older.items = c.self.inside.older.ok.0 in
-    let within = prefix_within (is_below c.newest.inside.version) c.deref.result.now in
+    let len : deque_len c.self.inside.older ≡ length c.self.inside.older.items = c.self.inside.older.ok.0 in
+    let within = prefix_within (is_below c.newest.inside.version) c.self.inside.older.items in
     let at = c.place_of-i.ensures in
-    let same = ap length c.deref.ensures.value in
-    omega (arith, len, within, at, same)
+    omega (arith, len, within, at)
 
 pub returns-then-lt : goal.returns-then-lt
 returns-then-lt c =
-    let e = rw c.unwrap.ensures at c.push.ensures.items in
+    let e = rw c.unwrap.ensures at c.push_back.ensures.items in
     let was = sym c.in-Some.ensures.value in
     let m : Record = c.in-Some.latest in
     let n : Record = c.args.record_of in
@@ -44,6 +45,19 @@ returns-else-lt c =
     (λ i. version_lt (sym (c.latest.invariant ∙ ap (λ (r : Record). r.entry.version) c.latest.view_is) i) (sym version i))
     ∙ sym (version_cmp-lt c.latest.inside.version c.newest.inside.version) ∙ sym c.lt.ensures ∙ c.if-lt.false in
     let shown = ap (λ o. c.self.inside.older.items ++ latest_row o) (sym was) ∙ ap (λ (k : KeptChain). k.items) c.self.view_is in
-    let at = c.place_of-i.ensures ∙ (λ i. prefix_len (is_below (version i)) (c.deref.ensures.value i)) in
+    let at = c.place_of-i.ensures ∙ ap (λ v. prefix_len (is_below v) c.self.inside.older.items) version in
     ap (λ rows. rows ++ fresh_row m ∷ []) (e ∙ (λ i. insert c.self.inside.older.items (at i) (record { record_of = (c.newest.view_is ∙ c.of-newest.ensures) i; stale = Some n.at })))
     ∙ placed_among n m c.self.inside.older.items above ∙ ap (placed n) shown
+
+pub stay_in_order-self-inside-requires-else-lt-clause-within : goal.stay_in_order-self-inside-requires-else-lt-clause-within
+stay_in_order-self-inside-requires-else-lt-clause-within c =
+    let within = prefix_within (is_below c.newest.inside.version) c.self.inside.older.items in
+    omega (arith, within, c.place_of-i.ensures)
+
+pub invariant_of-self : goal.invariant_of-self
+invariant_of-self c =
+    let e = rw c.unwrap.ensures at c.push_back.ensures.items in
+    let rows = c.self.inside.older.items in
+    let before : Dated = record { record_of = c.latest.inside.record_of; stale = Some c.args.record_of.at } in
+    let len : c.len-i.result ≡ length rows = c.len-i.ensures ∙ c.self.inside.older.ok.0 in
+    (tt, (λ yes. subst AreStaleInOrder (sym e) (subst AreStaleInOrder (insert_end rows before) (subst (λ n. AreStaleInOrder (insert rows n before)) len (c.stay_in_order-self-inside.ensures yes before refl)))))
