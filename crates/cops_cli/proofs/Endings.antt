@@ -6,8 +6,7 @@ use Rattle.cops_types.specs.Counts.{HasRisen, HasRisenBy}
 use Rattle.cops_script.specs.LineRuns.{IfRunRefused}
 use Rattle.cops_script.specs.declared.line_runs.fault.RunFault.{RunFault}
 use Rattle.cops_script.specs.declared.line_runs.fault.RunFault.TheVariants as run
-use Rattle.cops_replay.specs.OwnAudits.{RefusesOwnAuditOf}
-use Rattle.cops_replay.specs.OwnParts.{RefusesPartOf}
+use Rattle.cops_replay.specs.OwnParts.{RefusesOwnAuditOf, RefusesPartOf}
 use Rattle.cops_replay.specs.ReplayText.{RefusesReplayOf}
 use Rattle.cops_replay.specs.declared.refusals.PartRefusal.{PartRefusal}
 use Rattle.cops_replay.specs.declared.refusals.PartRefusal.TheVariants as part

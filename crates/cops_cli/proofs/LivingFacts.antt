@@ -12,8 +12,8 @@ use Rattle.cops_types.specs.Lines.{lines_of}
 use Rattle.cops_types.specs.Sink.{AppendsFront}
 use Rattle.cops_node.specs.Parts.{Shared}
 use Rattle.cops_node.proofs.Fresh.{numbers_fit}
-use Rattle.cops_replay.specs.OpenAudits.{AreNodesOfOpen, HaveTenants, open_audit_of, open_config_of, open_nodes_of}
-use Rattle.cops_replay.specs.WrittenAudits.{AllReplaySame, HaveLines, SaysSame}
+use Rattle.cops_replay.specs.AuditText.{AreNodesOfOpen, HaveTenants, open_audit_of, open_config_of, open_nodes_of}
+use Rattle.cops_replay.specs.AuditRuns.{AllReplaySame, HaveLines, SaysSame}
 use Rattle.cops_replay.proofs.NodesOf.{nodes_with_homes}
 use Rattle.cops_service.specs.HostedLeft.{AreLeftByLives}
 use Rattle.cops_service.proofs.HostedLeaving.{as_many_by_lives, at_home_by_lives}

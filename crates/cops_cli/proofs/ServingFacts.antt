@@ -15,7 +15,7 @@ use Rattle.cops_node.specs.Clusters.{new_nodes}
 use Rattle.cops_node.specs.Parts.{Shared}
 use Rattle.cops_node.proofs.Fresh.{numbers_fit}
 use Rattle.cops_replay.specs.AuditText.{AreNodesOf, audit_of, his_nodes}
-use Rattle.cops_replay.specs.WrittenAudits.{AllReplaySame, HaveLines, SaysSame}
+use Rattle.cops_replay.specs.AuditRuns.{AllReplaySame, HaveLines, SaysSame}
 use Rattle.cops_replay.proofs.NodesOf.{nodes_with_sites}
 use Rattle.cops_service.specs.Left.{AreLeft}
 use Rattle.cops_service.proofs.Told.{left_count, left_in_place}

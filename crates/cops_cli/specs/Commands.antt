@@ -17,14 +17,11 @@ use Rattle.cops_script.specs.SoloRuns.{IsRefusedFor, WritesSolo, WritesSoloFront
 use Rattle.cops_script.specs.declared.solo_machine.SoloRefusal.TheVariants as solo
 use Rattle.cops_service.specs.HostedLeft.{AreLeftByLives}
 use Rattle.cops_service.specs.Left.{AreLeft}
-use Rattle.cops_replay.specs.AuditRuns.{WritesAudit, WritesAuditFront}
-use Rattle.cops_replay.specs.AuditText.{audit_of, his_nodes}
+use Rattle.cops_replay.specs.AuditRuns.{WritesAudit, WritesAuditFront, AllReplaySame, HaveLines, SaysSame}
+use Rattle.cops_replay.specs.AuditText.{audit_of, his_nodes, HaveTenants, open_audit_of, open_config_of, open_nodes_of}
 use Rattle.cops_replay.specs.MigratedText.{migration_of}
-use Rattle.cops_replay.specs.OpenAudits.{HaveTenants, open_audit_of, open_config_of, open_nodes_of}
-use Rattle.cops_replay.specs.OwnAudits.{RefusesOwnAuditOf, WritesOwnAudit, WritesOwnAuditFront}
-use Rattle.cops_replay.specs.OwnParts.{RefusesPartOf, WritesPart, WritesPartFront}
+use Rattle.cops_replay.specs.OwnParts.{RefusesOwnAuditOf, WritesOwnAudit, WritesOwnAuditFront, RefusesPartOf, WritesPart, WritesPartFront}
 use Rattle.cops_replay.specs.ReplayText.{IsReplayOf, RefusesReplayOf, ReplaysFront}
-use Rattle.cops_replay.specs.WrittenAudits.{AllReplaySame, HaveLines, SaysSame}
 use Rattle.cops_replay.specs.declared.migrations.MigrationRefusal.TheVariants as migration
 use Rattle.cops_replay.specs.declared.refusals.PartRefusal.TheVariants as part
 use Rattle.cops_replay.specs.declared.refusals.ReplayRefusal.TheVariants as replay

@@ -9,7 +9,7 @@ ghost use Rattle.cops_types.specs.Source.{source_reader};
 ghost use Rattle.cops_node.specs.Clusters.{new_nodes};
 ghost use Rattle.cops_node.specs.Parts.{are_clocks};
 ghost use Rattle.cops_replay.specs.AuditText.{AreNodesOf, audit_of, his_nodes};
-ghost use Rattle.cops_replay.specs.WrittenAudits.{AllReplaySame, HaveLines, SaysSame};
+ghost use Rattle.cops_replay.specs.AuditRuns.{AllReplaySame, HaveLines, SaysSame};
 ghost use Rattle.cops_service.specs.Left.{AreLeft};
 ghost use Rattle.cops_cli.specs.Causes.{cause_text};
 ghost use Rattle.cops_cli.specs.Commands.{MayEnd, serving, streams};

@@ -7,8 +7,8 @@ ghost use Rattle.cops_types.specs.HeadLines.{are_sizes};
 ghost use Rattle.cops_types.specs.Sink.{AppendsFront, sink_failures, sink_writer};
 ghost use Rattle.cops_types.specs.Source.{source_reader};
 ghost use Rattle.cops_node.specs.Parts.{are_clocks};
-ghost use Rattle.cops_replay.specs.OpenAudits.{AreNodesOfOpen, HaveTenants, open_audit_of, open_config_of, open_nodes_of};
-ghost use Rattle.cops_replay.specs.WrittenAudits.{AllReplaySame, HaveLines, SaysSame};
+ghost use Rattle.cops_replay.specs.AuditText.{AreNodesOfOpen, HaveTenants, open_audit_of, open_config_of, open_nodes_of};
+ghost use Rattle.cops_replay.specs.AuditRuns.{AllReplaySame, HaveLines, SaysSame};
 ghost use Rattle.cops_service.specs.HostedLeft.{AreLeftByLives};
 ghost use Rattle.cops_cli.specs.Commands.{MayEnd, serving_lives, streams};
 

@@ -1,26 +1,11 @@
 -- What a record line says before the reply, and the text of the reply.
-use Rattle.std.proofs.Common.{◌≡◌, ℕ, Bool, false, List, [], ◌∷◌, refl, sym, subst, ap, ◌∙◌, arith}
-use Rattle.std.specs.Prelude.{IsTrue, ◌↔◌, Option, Some, None}
-use Rattle.std.specs.List.{AllByRecursion, join_with_byte}
+use Rattle.std.proofs.Common.{◌≡◌, ℕ, Bool, false, List, [], ◌∷◌, refl, sym, subst, ap, ◌∙◌, arith, IsTrue, ◌↔◌, Option, Some, None}
+use Rattle.cops_replay.proofs.Names.{AllByRecursion, join_with_byte, bytes_eq, nat_tests, TenantConfig, parts_at, space, spaced, Lacks, bytes_from_test, parts_back, parts_joined, same_bytes, same_value, NodeReply, SoloNode, Asked, Record, read_asked, read_reply, record_told, record_with, Read, then_read, version_in, has_form, is_reply, reply_words, Agrees, IsLineReplayed, IsReplied, Lone}
 use Rattle.std.specs.Option.{option_map}
-use Rattle.std.specs.Str.{bytes_eq}
-use Rattle.std.proofs.lemmas.Bool.Decides.{nat_tests}
-use Rattle.cops_types.specs.TenantConfig.{TenantConfig}
-use Rattle.cops_types.specs.Words.{parts_at, space, spaced}
-use Rattle.cops_types.proofs.WordLemmas.{Lacks, bytes_from_test, parts_back, parts_joined, same_bytes, same_value}
-use Rattle.cops_model.specs.declared.calls.NodeReply.{NodeReply}
 use Rattle.cops_model.specs.declared.calls.NodeReply.TheVariants.{Refused}
-use Rattle.cops_model.specs.SoloNode.{SoloNode}
-use Rattle.cops_replay.specs.declared.reading.Asked.{Asked}
-use Rattle.cops_replay.specs.declared.Record.{Record}
-use Rattle.cops_replay.specs.RecordLines.{read_asked, read_reply, record_told, record_with, reply_told, whole}
-use Rattle.cops_replay.specs.RecordText.{has_form, is_reply, reply_words}
-use Rattle.cops_replay.specs.RecordWords.{Read, done_with, then_read, version_in}
-use Rattle.cops_replay.specs.Replaying.{Agrees}
-use Rattle.cops_replay.specs.Replayings.{IsLineReplayed, IsReplied, Lone}
-use Rattle.cops_replay.proofs.LinesBack.{reply_back}
+use Rattle.cops_replay.specs.RecordLines.{reply_told, whole, done_with}
+use Rattle.cops_replay.proofs.LinesBack.{reply_back, reply_free}
 use Rattle.cops_replay.proofs.LinesSpelled.{reply_is}
-use Rattle.cops_replay.proofs.WordsLack.{reply_free}
 
 -- ---- the text of a reply
 

@@ -1,31 +1,10 @@
 -- Heads of files of either layout, over lines as they are cut.
-use Rattle.std.proofs.Common.{◌≡◌, ℕ, ◌+◌, ◌<◌, ◌≤◌, ◌^◌, Bool, true, false, ◌&&◌, nat_eq, cond, List, [], ◌∷◌, ◌++◌, length, take, refl, sym, subst, ap, ◌∙◌, length-append, length-take, true≢false, arith}
-use Rattle.std.specs.Prelude.{Option, Some, None, nat_lt, IsTrue}
-use Rattle.std.specs.Str.{bytes_eq}
-use Rattle.std.proofs.lemmas.Bool.Decides.{nat_tests}
-use Rattle.std.proofs.lemmas.List.{take_all}
-use Rattle.std.specs.List.{AllByRecursion}
-use Rattle.cops_types.specs.declared.configs.Config.{Config}
-use Rattle.cops_types.specs.declared.configs.Tenant.{Tenant}
-use Rattle.cops_types.specs.Counts.{counted}
-use Rattle.cops_types.specs.Head.{Front, AtStart, Within, Begun, HeadReading, Whole, BadAt, is_begun, may_join, reading_from}
-use Rattle.cops_types.specs.HeadLines.{is_distinct, is_name}
-use Rattle.cops_types.specs.Lines.{cut_line}
-use Rattle.cops_types.specs.OldHead.{last_old_clock, old_front_after, old_reading_from}
-use Rattle.cops_types.specs.Version.{last_clock}
+use Rattle.std.proofs.Common.{◌≡◌, ℕ, ◌+◌, ◌<◌, ◌≤◌, ◌^◌, Bool, true, false, ◌&&◌, nat_eq, cond, List, [], ◌∷◌, ◌++◌, length, take, refl, sym, subst, ap, ◌∙◌, length-append, length-take, true≢false, arith, Option, Some, None, nat_lt, IsTrue}
+use Rattle.cops_replay.proofs.Names.{bytes_eq, nat_tests, take_all, AllByRecursion, Config, Tenant, counted, Front, AtStart, Within, Begun, HeadReading, Whole, BadAt, is_begun, may_join, reading_from, is_distinct, cut_line, last_old_clock, old_front_after, old_reading_from, last_clock, tenant_fits, front_after-short, both, bytes_from_test, AreNamed, slot_of_name, Every-append, found_at, short_name, Layout, Today, Early, layout_line, front_by, tells_layout, layout_of, longest_record}
+use Rattle.cops_types.specs.HeadLines.{is_name}
 use Rattle.cops_types.proofs.FrontLemmas.{front_after-is}
-use Rattle.cops_types.proofs.HeadLemmas.{tenant_fits}
-use Rattle.cops_types.proofs.HeadLengths.{front_after-short}
-use Rattle.cops_types.proofs.WordLemmas.{both, bytes_from_test}
-use Rattle.cops_types.specs.Slots.{AreNamed, slot_of_name}
-use Rattle.cops_types.proofs.Elements.{Every-append}
-use Rattle.cops_script.proofs.ApartTenants.{found_at, name_of, short_name}
+use Rattle.cops_script.proofs.ApartTenants.{name_of}
 use Rattle.cops_script.proofs.HeadRuns as today
-use Rattle.cops_replay.specs.declared.layouts.Layout.{Layout}
-use Rattle.cops_replay.specs.declared.layouts.Layout.TheVariants.{Today, Early}
-use Rattle.cops_replay.specs.AuditText.{layout_line}
-use Rattle.cops_replay.specs.FileHeads.{front_by, tells_layout}
-use Rattle.cops_replay.specs.ReplayText.{layout_of, longest_record}
 use Rattle.cops_replay.proofs.OldFronts.{FollowsTo, follows_today, old_front_after-is, old_front_after-short}
 
 pub by_test : {C : Type 0} (b : Bool) → (b ≡ true → C) → (b ≡ false → C) → C

@@ -1,34 +1,13 @@
 -- The lines of a written audit, and those of them that are one tenant's.
-use Rattle.std.proofs.Common.{◌≡◌, ℕ, zero, suc, ◌+◌, ◌<◌, true, false, cond, List, [], ◌∷◌, ◌++◌, map, length, refl, sym, subst, ap, ◌∙◌, append-nil, arith}
-use Rattle.std.specs.Prelude.{IsTrue, Some, None, codes, decimal, flat_map, nat_lt, slice_get}
-use Rattle.std.specs.List.{AllByRecursion, position_or_len, list_any}
-use Rattle.std.specs.Str.{bytes_eq}
-use Rattle.std.proofs.lemmas.Bool.Decides.{nat_tests}
-use Rattle.std.proofs.lemmas.Grind.{flat_map-append}
-use Rattle.std.proofs.lemmas.List.Elements.{filter-append}
-use Rattle.std.proofs.lemmas.List.Folds.{flat_map-map}
-use Rattle.cops_types.specs.declared.configs.Config.{Config}
-use Rattle.cops_types.specs.declared.configs.Tenant.{Tenant}
-use Rattle.cops_types.specs.Head.{Whole, head_of}
+use Rattle.std.proofs.Common.{◌≡◌, ℕ, zero, suc, ◌+◌, ◌<◌, true, false, cond, List, [], ◌∷◌, ◌++◌, map, length, refl, sym, subst, ap, ◌∙◌, append-nil, arith, IsTrue, Some, None, codes, decimal, flat_map, nat_lt, slice_get}
+use Rattle.cops_replay.proofs.Names.{AllByRecursion, list_any, bytes_eq, nat_tests, flat_map-append, filter-append, flat_map-map, Config, Tenant, Whole, head_of, lines_of, AreNamed, slot_of_name, TenantConfig, first_word, newline, space, spaced, left_fails, right_fails, swapped, Lacks, name_lacks, same_bytes, same_value, Every-append, AreApart, has_text, last_clock, SoloNode, Record, ended, tenants_text, alone_lines, call_words, node_text, record_line, reply_words, AreFormed, his_records}
+use Rattle.std.specs.List.{position_or_len}
 use Rattle.cops_types.specs.Key.{is_name}
-use Rattle.cops_types.specs.Lines.{lines_of}
-use Rattle.cops_types.specs.Slots.{AreNamed, slot_of_name}
-use Rattle.cops_types.specs.TenantConfig.{TenantConfig}
-use Rattle.cops_types.specs.Words.{first_word, newline, space, spaced}
 use Rattle.cops_types.proofs.HeadLengths.{name_of_good}
-use Rattle.cops_types.proofs.OpenSlotLemmas.{left_fails, right_fails, swapped}
-use Rattle.cops_types.proofs.WordLemmas.{Lacks, first_word-more, name_lacks, same_bytes, same_value, space_foreign}
-use Rattle.cops_types.proofs.Elements.{Every-append}
-use Rattle.cops_types.specs.TenantTexts.{AreApart, has_text}
-use Rattle.cops_types.specs.Version.{last_clock}
-use Rattle.cops_model.specs.SoloNode.{SoloNode}
-use Rattle.cops_replay.specs.declared.Record.{Record}
-use Rattle.cops_replay.specs.AuditText.{ended, tenants_text}
-use Rattle.cops_replay.specs.ReplayText.{alone_lines}
-use Rattle.cops_replay.specs.RecordText.{call_words, is_record, node_text, record_line, reply_words}
-use Rattle.cops_replay.specs.WrittenAudits.{AreFormed, his_records}
+use Rattle.cops_types.proofs.WordLemmas.{first_word-more, space_foreign}
 use Rattle.cops_replay.proofs.HeadsBack.{AreFit, lines_of-lines, of_head}
 use Rattle.cops_replay.proofs.LinesBack.{lines_lack}
+use Rattle.cops_replay.proofs.AuditTexts.{AllFormed}
 
 -- ---- the tenants of a head
 
@@ -84,9 +63,6 @@ named_at tenants slot tenant apart e =
 
 -- ---- the lines of one tenant's records
 
-abbrev Formed : List Record → Type 0
-Formed records = AllByRecursion (λ (told : Record). IsTrue (is_record told)) records
-
 abbrev his_lines : List ℕ → List Record → List (List ℕ)
 his_lines name records = map (record_line name) records
 
@@ -123,15 +99,15 @@ module _ (config : Config) (nodes : TenantConfig → ℕ → List SoloNode) wher
 
   -- from this slot on
   abbrev FormedFrom : ℕ → List Tenant → Type 0
-  FormedFrom slot tenants = (k : ℕ) (tenant : Tenant) → slice_get tenants k ≡ Some tenant → Formed (his_records config nodes (slot + k) tenant)
+  FormedFrom slot tenants = (k : ℕ) (tenant : Tenant) → slice_get tenants k ≡ Some tenant → AllFormed (his_records config nodes (slot + k) tenant)
 
   later_formed : (slot : ℕ) (first : Tenant) (tenants : List Tenant) → FormedFrom slot (first ∷ tenants) → FormedFrom (slot + 1) tenants
-  later_formed slot first tenants formed k tenant e = subst (λ n. Formed (his_records config nodes n tenant)) (omega arith) (formed (suc k) tenant e)
+  later_formed slot first tenants formed k tenant e = subst (λ n. AllFormed (his_records config nodes n tenant)) (omega arith) (formed (suc k) tenant e)
 
   all_lack : (slot : ℕ) (tenants : List Tenant) → AreNamed tenants → FormedFrom slot tenants → AllByRecursion (Lacks newline) (record_lines slot tenants)
   all_lack slot [] named formed = tt
   all_lack slot (tenant ∷ tenants) named formed =
-      let here : Formed (his_records config nodes slot tenant) = subst (λ n. Formed (his_records config nodes n tenant)) (omega arith) (formed 0 tenant refl) in
+      let here : AllFormed (his_records config nodes slot tenant) = subst (λ n. AllFormed (his_records config nodes n tenant)) (omega arith) (formed 0 tenant refl) in
       Every-append (Lacks newline) (his_lines tenant.name (his_records config nodes slot tenant)) (record_lines (slot + 1) tenants) (lines_lack tenant.name (his_records config nodes slot tenant) named.0 here)
       (all_lack (slot + 1) tenants named.1 (later_formed slot tenant tenants formed))
 
@@ -160,9 +136,10 @@ module _ (config : Config) (nodes : TenantConfig → ℕ → List SoloNode) wher
       ∙ ap (λ n. his_lines tenant.name (his_records config nodes n tenant)) there
 
   -- those of one tenant are those of its records
-  pub lines_his : (slot : ℕ) (tenant : Tenant) → AreKnown config.tenants → AreFormed config nodes → slice_get config.tenants slot ≡ Some tenant →
+  pub lines_his : (lines rest : List (List ℕ)) (slot : ℕ) (tenant : Tenant) → head_of lines ≡ Whole config rest → AreFormed config nodes → slice_get config.tenants slot ≡ Some tenant →
       alone_lines tenant.name (lines_of (tenants_text config nodes 0 config.tenants)) ≡ his_lines tenant.name (his_records config nodes slot tenant)
-  lines_his slot tenant known formed e =
+  lines_his lines rest slot tenant head formed e =
+      let known = head_known lines rest config head in
       ap (λ text. alone_lines tenant.name (lines_of text)) (sym (text_is 0 config.tenants))
-      ∙ ap (alone_lines tenant.name) (lines_of-lines (record_lines 0 config.tenants) (all_lack 0 config.tenants known.named (λ k t at. subst (λ n. Formed (his_records config nodes n t)) (omega arith) (formed k t at))))
+      ∙ ap (alone_lines tenant.name) (lines_of-lines (record_lines 0 config.tenants) (all_lack 0 config.tenants known.named (λ k t at. subst (λ n. AllFormed (his_records config nodes n t)) (omega arith) (formed k t at))))
       ∙ only_his 0 config.tenants slot tenant known.named known.apart e ∙ ap (λ n. his_lines tenant.name (his_records config nodes n tenant)) (let here : 0 + slot ≡ slot = omega arith in here)

@@ -1,24 +1,9 @@
--- The text of an audit, piece by piece.
-use Rattle.std.proofs.Common.{◌≡◌, ℕ, suc, ◌+◌, ◌<◌, List, [], ◌∷◌, ◌++◌, length, map, drop, get_or, ◌≤◌, refl, sym, subst, ap, ◌∙◌, arith}
-use Rattle.std.specs.Prelude.{Some, slice_get}
-use Rattle.std.specs.List.{AllByRecursion}
-use Rattle.std.proofs.lemmas.Grind.{flat_map-append}
-use Rattle.std.proofs.lemmas.Option.{slice_get-map, slice_get-get_or, slice_get_within}
-use Rattle.std.proofs.lemmas.List.{drop_all, drop_more, length-map}
-use Rattle.std.proofs.lemmas.Bool.Decides.{nat_tests}
-use Rattle.cops_types.specs.declared.configs.Config.{Config}
-use Rattle.cops_types.specs.declared.configs.Tenant.{Tenant}
-use Rattle.cops_types.specs.TenantConfig.{TenantConfig, tenant_config}
+-- The text of an audit, piece by piece, whose records have the form of a line.
+use Rattle.std.proofs.Common.{◌≡◌, ℕ, zero, suc, Bool, IsTrue, ◌+◌, ◌<◌, List, [], ◌∷◌, ◌++◌, length, map, drop, get_or, ◌≤◌, refl, sym, subst, ap, ◌∙◌, arith, Some, slice_get}
+use Rattle.cops_replay.proofs.Names.{AllByRecursion, list_all, flat_map-append, slice_get-get_or, slice_get_within, drop_all, drop_more, length-map, nat_tests, Config, Tenant, TenantConfig, tenant_config, both, same_value, AuditEntry, NodeId, HasTenant, IsCluster, id_of, shape_of, Shared, place_at, solo_of, place_of, SoloNode, audit_text, ended, head_text, his_nodes, record_of, records_from, records_of, records_text, tenants_text, record_line, Every-append, Place, trail_of, calls_in_trail, Record, has_form, is_record, his_records}
+use Rattle.std.proofs.lemmas.Option.{slice_get-map}
 use Rattle.cops_types.proofs.Elements.{Every-at, slice_get-Among}
-use Rattle.cops_types.proofs.WordLemmas.{same_value}
-use Rattle.cops_model.specs.declared.calls.AuditEntry.{AuditEntry}
-use Rattle.cops_model.specs.declared.calls.NodeId.{NodeId}
-use Rattle.cops_node.specs.Clusters.{HasTenant, IsCluster, id_of, shape_of}
-use Rattle.cops_node.specs.Parts.{Shared, place_at, solo_of}
-use Rattle.cops_model.specs.Place.{place_of}
-use Rattle.cops_model.specs.SoloNode.{SoloNode}
-use Rattle.cops_replay.specs.AuditText.{audit_text, ended, head_text, his_nodes, record_of, records_from, records_of, records_text, tenants_text}
-use Rattle.cops_replay.specs.RecordText.{record_line}
+use Rattle.cops_replay.proofs.AuditReplays.{audits_formed}
 
 -- ---- what is left of a list, from an element on
 
@@ -47,6 +32,12 @@ tenants_left config nodes tenants i tenant e = ap (tenants_text config nodes i) 
 -- what holds of each holds of one
 pub each_at : {A : Type 0} (P : A → Type 0) (xs : List A) (i : ℕ) (x : A) → AllByRecursion P xs → slice_get xs i ≡ Some x → P x
 each_at P xs i x h e = Every-at P x xs h (slice_get-Among xs i x e)
+
+-- what a test of all says says it of one
+pub all_at : {A : Type 0} (test : A → Bool) (xs : List A) (i : ℕ) (x : A) → IsTrue (list_all test xs) → slice_get xs i ≡ Some x → IsTrue (test x)
+all_at test [] i x all at = absurd cc
+all_at test (y ∷ ys) zero x all at = subst (λ z. IsTrue (test z)) (same_value y x at) (both (test y) (list_all test ys) all).0
+all_at test (y ∷ ys) (suc i) x all at = all_at test ys i x (both (test y) (list_all test ys) all).1 at
 
 -- a node has its number
 pub numbered : (config : Config) (nodes : List Shared) (i : ℕ) (node : Shared) → IsCluster (shape_of config) nodes → i < length nodes → node ≡ get_or nodes i node → node.home.id ≡ id_of config.shards i
@@ -81,3 +72,27 @@ pub audit_text-same : (config : Config) (one other : TenantConfig → ℕ → Li
     ((k : ℕ) (tenant : Tenant) → slice_get config.tenants k ≡ Some tenant → one (tenant_config config tenant) k ≡ other (tenant_config config tenant) k) → audit_text config one ≡ audit_text config other
 audit_text-same config one other h =
     ap (λ l. head_text config ++ l) (tenants_text-same config one other 0 config.tenants (λ k tenant e. subst (λ n. one (tenant_config config tenant) n ≡ other (tenant_config config tenant) n) (omega arith) (h k tenant e)))
+
+abbrev pub AllFormed : List Record → Type 0
+AllFormed records = AllByRecursion (λ (told : Record). IsTrue (is_record told)) records
+
+-- a reply in the audit of a slot has a form
+pub reply_formed : (slot : ℕ) (place : Place) (node : Shared) (i : ℕ) (entry : AuditEntry) → slice_get (solo_of slot place node).trail i ≡ Some entry → IsTrue (has_form entry.reply)
+reply_formed slot place node i entry found =
+    each_at (λ (e : AuditEntry). IsTrue (has_form e.reply)) (solo_of slot place node).trail i entry (audits_formed place (calls_in_trail (trail_of slot node.audit))) found
+
+-- those of the nodes from this one on
+pub nodes_formed : (shards : ℕ) (nodes : List SoloNode) (i : ℕ) (node : SoloNode) → slice_get nodes i ≡ Some node → AllFormed (map (record_of (id_of shards i)) node.trail) → AllFormed (records_from shards (i + 1) (drop (i + 1) nodes)) →
+    AllFormed (records_from shards i (drop i nodes))
+nodes_formed shards nodes i node found first more =
+    subst AllFormed (sym (ap (records_from shards i) (left_from nodes i node found)))
+    (Every-append (λ (told : Record). IsTrue (is_record told)) (map (record_of (id_of shards i)) node.trail) (records_from shards (i + 1) (drop (i + 1) nodes)) first more)
+
+-- of the tenants below a slot
+abbrev pub AreFormedBelow : Config → (TenantConfig → ℕ → List SoloNode) → ℕ → Type 0
+AreFormedBelow config nodes below = (slot : ℕ) (tenant : Tenant) → slot < below → slice_get config.tenants slot ≡ Some tenant → AllFormed (his_records config nodes slot tenant)
+
+-- those of one tenant more
+pub one_tenant_formed : (config : Config) (nodes : TenantConfig → ℕ → List SoloNode) (i : ℕ) (tenant : Tenant) → slice_get config.tenants i ≡ Some tenant → AreFormedBelow config nodes i → AllFormed (his_records config nodes i tenant) →
+    AreFormedBelow config nodes (i + 1)
+one_tenant_formed config nodes i tenant found before formed slot other below e = grind (arith, nat_tests)

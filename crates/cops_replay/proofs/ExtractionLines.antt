@@ -1,31 +1,13 @@
 -- What the extraction of a part comes to over a whole file.
-use Rattle.std.proofs.Common.{◌≡◌, ℕ, ◌≤◌, Bool, true, false, cond, List, [], ◌∷◌, ◌++◌, length, map, inl, inr, refl, sym, subst, ap, ◌∙◌, append_assoc, arith}
-use Rattle.std.specs.Prelude.{Option, Some, None, IfSome, flat_map, ⊤}
-use Rattle.std.specs.Str.{bytes_eq}
-use Rattle.std.specs.Io.KnownBytes.{Keeps}
-use Rattle.std.proofs.lemmas.Grind.{flat_map-append}
+use Rattle.std.proofs.Common.{◌≡◌, ℕ, ◌≤◌, Bool, true, false, cond, List, [], ◌∷◌, ◌++◌, length, map, inl, inr, refl, sym, subst, ap, ◌∙◌, append_assoc, arith, Option, Some, None, IfSome, flat_map}
+use Rattle.std.specs.Prelude.{⊤}
+use Rattle.cops_replay.proofs.Names.{bytes_eq, Keeps, flat_map-append, filter-append, nat_tests, AtStart, lines_of, cut_line, first_word, RunFault, Run, AnswersAll, IfRunRefused, StopsEarly, AppendsFront-more, AuditMachine, Layout, Early, PartRefusal, IsAtHead, audit_rules, ended, IsPartBy, IsPartOf, RefusesPartBy, RefusesPartOf, layout_lines, lone_head_lines, alone_lines, longest_record, seen_lines}
 use Rattle.std.proofs.lemmas.List.{map-append}
-use Rattle.std.proofs.lemmas.List.Elements.{filter-append}
-use Rattle.std.proofs.lemmas.Bool.Decides.{nat_tests}
-use Rattle.cops_types.specs.Head.{AtStart}
-use Rattle.cops_types.specs.Lines.{lines_of, cut_line}
-use Rattle.cops_types.specs.Words.{first_word}
-use Rattle.cops_script.specs.declared.line_runs.fault.RunFault.{RunFault}
 use Rattle.cops_script.specs.declared.line_runs.fault.RunFault.TheVariants as fault
-use Rattle.cops_script.specs.LineRules.{Run}
-use Rattle.cops_script.specs.LineRuns.{AnswersAll, IfRunRefused, StopsEarly}
-use Rattle.cops_script.proofs.KnownLemmas.{AppendsFront-more}
-use Rattle.cops_replay.specs.declared.audit_machine.AuditMachine.{AuditMachine}
-use Rattle.cops_replay.specs.declared.extraction_machine.PartOf.{PartOf}
-use Rattle.cops_replay.specs.declared.layouts.Layout.{Layout}
-use Rattle.cops_replay.specs.declared.layouts.Layout.TheVariants.{Early}
-use Rattle.cops_replay.specs.declared.refusals.PartRefusal.{PartRefusal}
+use Rattle.cops_replay.specs.declared.extractions.PartOf.{PartOf}
 use Rattle.cops_replay.specs.declared.refusals.PartRefusal.TheVariants.{BadConfig, UnknownTenant}
-use Rattle.cops_replay.specs.AuditFiles.{IsAtHead, audit_rules}
-use Rattle.cops_replay.specs.AuditText.{ended}
 use Rattle.cops_replay.specs.ExtractionRules.{part_lines, part_rules}
-use Rattle.cops_replay.specs.OwnParts.{IsPartBy, IsPartOf, RefusesPartBy, RefusesPartOf, WritesPart, WritesPartFront, layout_lines, lone_head_lines}
-use Rattle.cops_replay.specs.ReplayText.{alone_lines, longest_record, seen_lines}
+use Rattle.cops_replay.specs.OwnParts.{WritesPart, WritesPartFront}
 use Rattle.cops_replay.proofs.AuditHeads.{short_in}
 use Rattle.cops_replay.proofs.FileRuns as runs
 use Rattle.cops_replay.proofs.RecordRuns.{same_own}

@@ -1,25 +1,7 @@
 -- The text of a head that was read is read back, and so replays of a migrated audit find what replays of the audit do.
-use Rattle.std.proofs.Common.{◌≡◌, ℕ, Bool, cond, List, [], ◌∷◌, ◌++◌, refl, sym, ap, ◌∙◌, append_assoc, append-nil, ◌↔◌, arith}
-use Rattle.std.specs.Prelude.{Option, None, flat_map}
-use Rattle.std.specs.Str.{bytes_eq}
-use Rattle.std.proofs.lemmas.Grind.{flat_map-append}
-use Rattle.std.proofs.lemmas.List.Folds.{flat_map-map}
-use Rattle.std.proofs.lemmas.Bool.Decides.{nat_tests}
-use Rattle.cops_types.specs.declared.configs.Config.{Config}
-use Rattle.cops_types.specs.Head.{Whole, head_of}
-use Rattle.cops_types.specs.HeadLines.{cluster_in}
-use Rattle.cops_types.specs.Lines.{lines_of}
-use Rattle.cops_types.specs.Words.{newline}
-use Rattle.cops_types.proofs.HeadLemmas.{cluster_in-is}
+use Rattle.std.proofs.Common.{◌≡◌, ℕ, Bool, cond, List, [], ◌∷◌, ◌++◌, refl, sym, ap, ◌∙◌, append_assoc, append-nil, ◌↔◌, arith, Option, None, flat_map}
+use Rattle.cops_replay.proofs.Names.{bytes_eq, flat_map-append, flat_map-map, nat_tests, Config, Whole, head_of, cluster_in, lines_of, newline, cluster_in-is, Lacks, lacks_from_test, same_bytes, bytes_from_test, Layout, Early, Today, ReplayRefusal, ended, head_text, layout_line, migration_of, IsAuditInBoth, IsRefusedBy, IsReplayBy, IsReplayOf, RefusesReplayOf, head_by, layout_of}
 use Rattle.cops_replay.proofs.HeadsBack.{head_reads_back, head_unbroken, holds_of_rest, lines_of-lack, lines_of-lines, lines_of-more, written_head, written_tenant}
-use Rattle.cops_types.proofs.WordLemmas.{Lacks, lacks_from_test, same_bytes, bytes_from_test}
-use Rattle.cops_replay.specs.declared.layouts.Layout.{Layout}
-use Rattle.cops_replay.specs.declared.layouts.Layout.TheVariants.{Early, Today}
-use Rattle.cops_replay.specs.declared.refusals.ReplayRefusal.{ReplayRefusal}
-use Rattle.cops_replay.specs.AuditText.{ended, head_text, layout_line}
-use Rattle.cops_replay.specs.MigratedText.{migration_of}
-use Rattle.cops_replay.specs.MigrationLaws.{IsAuditInBoth}
-use Rattle.cops_replay.specs.ReplayText.{IsRefusedBy, IsReplayBy, IsReplayOf, RefusesReplayOf, head_by, layout_of}
 use Rattle.cops_replay.proofs.EarlyRecords.{refused_alike, replayed_alike}
 use Rattle.cops_replay.proofs.WholeMigrations.{alike, whole}
 

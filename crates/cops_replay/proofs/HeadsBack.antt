@@ -1,31 +1,18 @@
 -- A head that was read is read again from the lines that are written of it, with each token in lower case with hyphens.
-use Rattle.std.proofs.Common.{◌≡◌, ℕ, ◌+◌, ◌<◌, ◌≤◌, ◌^◌, Bool, true, false, cond, ◌&&◌, inl, inr, All, List, [], ◌∷◌, ◌++◌, length, map, drop, if◌then◌else◌, refl, sym, subst, ap, ◌∙◌, append_assoc, append-nil, arith, not, length-append}
-use Rattle.std.specs.Prelude.{IsTrue, codes, decimal, ◌==◌, Option, Some, None, nat_lt}
-use Rattle.std.specs.List.{AllByRecursion, AllPass, flat_map, list_all, list_any}
-use Rattle.std.proofs.lemmas.Bool.Decides.{nat_tests, Decides-eqb}
-use Rattle.std.proofs.lemmas.List.Elements.{recursion_from_All}
+use Rattle.std.proofs.Common.{◌≡◌, ℕ, ◌+◌, ◌<◌, ◌≤◌, ◌^◌, Bool, true, false, cond, ◌&&◌, inl, inr, All, List, [], ◌∷◌, ◌++◌, length, map, drop, if◌then◌else◌, refl, sym, subst, ap, ◌∙◌, append_assoc, append-nil, arith, not, length-append, IsTrue, codes, decimal, ◌==◌, Option, Some, None, nat_lt}
+use Rattle.cops_replay.proofs.Names.{AllByRecursion, list_all, list_any, nat_tests, recursion_from_All, bytes_eq, Config, Tenant, Front, AtStart, Within, Begun, Whole, BadAt, head_of, reading_from, IsTenantLineTo, are_sizes, begin_line, cluster_line, is_tenant_to, tenant_line, is_distinct, most_tenants, last_clock, is_u64, newline, space, spaced, front_after-finds, tenant_fits, IsForeign, Lacks, both, decimal_lacks, lacks_from_test, name_lacks, same_value, and, Every-append, AreApart, has_text, both_fail, left_fails, right_fails, swapped, with_tenants, Today}
+use Rattle.std.specs.List.{AllPass, flat_map}
+use Rattle.std.proofs.lemmas.Bool.Decides.{Decides-eqb}
 use Rattle.std.proofs.lemmas.List.Sums.{AllPass-from_list_all}
-use Rattle.std.specs.Str.{bytes_eq}
 use Rattle.uuid.specs.Text.{by_index, byte_of_digits, digit_place, digits_of, has_hyphens, has_urn_prefix, hex_digit, hyphen, hyphenated_text, is_hex_digit, is_hyphen_place, lower, nibble, parsed, parsed_braced, parsed_hyphenated, parsed_simple, parsed_urn}
 use Rattle.uuid.proofs.RoundTrips.{parses_hyphenated}
 use Rattle.uuid.proofs.TextLemmas.{by_index_at, by_index_length, nibble_small}
-use Rattle.cops_types.specs.declared.configs.Config.{Config}
-use Rattle.cops_types.specs.declared.configs.Tenant.{Tenant}
-use Rattle.cops_types.specs.Head.{Front, AtStart, Within, Begun, Leads, Whole, BadAt, head_of, reading_from}
-use Rattle.cops_types.specs.HeadLines.{IsTenantLineTo, are_sizes, begin_line, cluster_line, is_tenant_to, tenant_line, is_distinct, most_tenants}
+use Rattle.cops_types.specs.Head.{Leads}
 use Rattle.cops_types.specs.Lines.{lines_of, onto_first}
-use Rattle.cops_types.specs.Version.{last_clock}
-use Rattle.cops_types.specs.Words.{is_u64, newline, space, spaced}
-use Rattle.cops_types.proofs.FrontLemmas.{front_after-finds}
-use Rattle.cops_types.proofs.HeadLemmas.{sizes_fit, tenant_fits}
+use Rattle.cops_types.proofs.HeadLemmas.{sizes_fit}
 use Rattle.cops_types.proofs.HeadReading.{token_is_word}
-use Rattle.cops_types.proofs.WordLemmas.{IsForeign, Lacks, both, decimal_lacks, lacks_from_test, name_lacks, same_value, and}
-use Rattle.cops_types.proofs.Elements.{Every-append, Every-from}
-use Rattle.cops_types.specs.TenantTexts.{AreApart, has_text}
+use Rattle.cops_types.proofs.Elements.{Every-from}
 use Rattle.cops_types.proofs.BegunSlots.{apart_more}
-use Rattle.cops_types.proofs.OpenSlotLemmas.{both_fail, left_fails, right_fails, swapped}
-use Rattle.cops_replay.specs.OpenAudits.{with_tenants}
-use Rattle.cops_replay.specs.declared.layouts.Layout.TheVariants.{Today}
 use Rattle.cops_replay.proofs.AuditHeads.{follows_by, head_holds}
 use Rattle.cops_replay.proofs.OldFronts.{FollowsTo}
 
@@ -96,12 +83,8 @@ token_text_lacks separator low bytes = grind (arith, nat_tests, apart_from, by_i
 abbrev pub written_tenant : Tenant → List ℕ
 written_tenant tenant = tenant_line (hyphenated_text lower tenant.token) tenant
 
--- up to the line `begin`
-abbrev lines_within : Config → List (List ℕ)
-lines_within config = cluster_line config ∷ map written_tenant config.tenants
-
 abbrev pub written_head : Config → List (List ℕ)
-written_head config = lines_within config ++ begin_line ∷ []
+written_head config = cluster_line config ∷ (map written_tenant config.tenants ++ begin_line ∷ [])
 
 pub tenant_written : (last : ℕ) (tenant : Tenant) → IsToken tenant.token → IsTrue (is_tenant_to last tenant) → IsTenantLineTo last (written_tenant tenant) tenant
 tenant_written last tenant token is =

@@ -1,36 +1,13 @@
 -- No line of a record is too long whose lists have at most 1,024 pairs.
-use Rattle.std.proofs.Common.{◌≡◌, ℕ, suc, ◌+◌, ◌*◌, ◌^◌, ◌<◌, ◌≤◌, true, ◌&&◌, List, [], ◌∷◌, ◌++◌, length, map, arith, length-append}
-use Rattle.std.specs.Prelude.{IsTrue, codes, decimal, nat_le, nat_lt}
-use Rattle.std.specs.List.{join_with_byte, list_all}
-use Rattle.std.specs.Ordering.{on}
-use Rattle.std.proofs.lemmas.Bool.Decides.{nat_tests}
+use Rattle.std.proofs.Common.{◌≡◌, ℕ, suc, ◌+◌, ◌*◌, ◌^◌, ◌<◌, ◌≤◌, true, ◌&&◌, List, [], ◌∷◌, ◌++◌, length, map, arith, length-append, IsTrue, codes, decimal, nat_le, nat_lt}
+use Rattle.cops_replay.proofs.Names.{join_with_byte, list_all, on, nat_tests, Fault, Pair, Entry, is_key, key_cmp, NODES, pair_cmp, is_rising, TenantConfig, Timestamp, last_clock, is_u64, list_text, pair_text, spaced, version_text, both, NodeCall, Put, Commit, NodeId, NodeReply, Found, Wanted, Latest, Exactly, Record, are_deps, are_near, is_pair, is_version, call_words, entry_words, is_audited, is_bytes, is_call, is_entry, is_record, is_reply, is_wanted, node_text, record_line, record_value, record_words, reply_words, wanted_text}
 use Rattle.std.proofs.lemmas.Fmt.{length-decimal-le}
-use Rattle.cops_types.specs.declared.faults.Fault.{Fault}
-use Rattle.cops_types.specs.declared.pairs.Pair.{Pair}
-use Rattle.cops_types.specs.declared.records.EntryParts.{EntryParts as Entry}
 use Rattle.cops_types.specs.FaultText.{fault_text}
-use Rattle.cops_types.specs.Key.{is_key, is_name, key_cmp}
-use Rattle.cops_types.specs.Layout.{NODES}
-use Rattle.cops_types.specs.Pairs.{pair_cmp}
-use Rattle.cops_types.specs.Search.{is_rising}
-use Rattle.cops_types.specs.TenantConfig.{TenantConfig}
-use Rattle.cops_types.specs.Version.{Timestamp, last_clock}
-use Rattle.cops_types.specs.Words.{is_u64, list_text, pair_text, spaced, version_text}
-use Rattle.cops_types.proofs.WordLemmas.{both}
-use Rattle.cops_model.specs.declared.calls.NodeCall.{NodeCall}
-use Rattle.cops_model.specs.declared.calls.NodeCall.TheVariants.{Put, Commit}
-use Rattle.cops_model.specs.declared.calls.NodeId.{NodeId}
-use Rattle.cops_model.specs.declared.calls.NodeReply.{NodeReply}
-use Rattle.cops_model.specs.declared.calls.NodeReply.TheVariants.{Found}
-use Rattle.cops_model.specs.declared.calls.Wanted.{Wanted}
-use Rattle.cops_model.specs.declared.calls.Wanted.TheVariants.{Latest, Exactly}
+use Rattle.cops_types.specs.Key.{is_name}
 use Rattle.cops_model.specs.ListLimits.{HasFewInCall, HasFewInReply, HasFewPairs}
-use Rattle.cops_replay.specs.declared.Record.{Record}
-use Rattle.cops_types.specs.PairForms.{are_deps, are_near, is_pair, is_version}
 use Rattle.cops_types.proofs.HeadLengths.{name-short}
-use Rattle.cops_replay.specs.RecordText.{call_words, entry_words, is_audited, is_bytes, is_call, is_entry, is_record, is_reply, is_wanted, node_text, record_line, record_value, record_words, reply_words, wanted_text}
 use Rattle.cops_replay.proofs.PartLemmas.{length-bytes_text}
-use Rattle.cops_replay.proofs.WordsLack.{entry_holds, record_holds}
+use Rattle.cops_replay.proofs.LinesBack.{entry_holds, record_holds}
 
 -- ---- words
 

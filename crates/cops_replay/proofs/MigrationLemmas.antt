@@ -1,34 +1,14 @@
 -- What the rules of a migration come to over a whole text.
-use Rattle.std.proofs.Common.{◌≡◌, ℕ, ◌+◌, ◌≤◌, Bool, true, false, cond, List, [], ◌∷◌, ◌++◌, length, map, inl, inr, refl, sym, subst, ap, ◌∙◌, append_assoc, append-nil, arith}
-use Rattle.std.specs.Prelude.{Option, Some, None, IfSome, IsTrue, nat_le, Result, Ok, Err}
-use Rattle.std.specs.Io.KnownBytes.{Appends}
-use Rattle.std.proofs.lemmas.Bool.Decides.{nat_tests}
-use Rattle.std.proofs.lemmas.List.{take_all}
-use Rattle.cops_types.specs.declared.configs.Config.{Config}
-use Rattle.cops_types.specs.declared.faults.Fault.{Fault}
-use Rattle.cops_types.specs.declared.faults.Fault.TheVariants.{Syntax, ClockTooGreat}
-use Rattle.cops_script.specs.declared.line_runs.fault.RunFault.{RunFault}
+use Rattle.std.proofs.Common.{◌≡◌, ℕ, ◌+◌, ◌≤◌, Bool, true, false, cond, List, [], ◌∷◌, ◌++◌, length, map, inl, inr, refl, sym, subst, ap, ◌∙◌, append_assoc, append-nil, arith, Option, Some, None, IfSome, IsTrue, nat_le, Result, Ok, Err}
+use Rattle.cops_replay.proofs.Names.{Appends, nat_tests, take_all, Config, Fault, Syntax, RunFault, counted, Front, AtStart, Begun, is_begun, Run, AnswersAll, IfRunRefused, StopsEarly, lines_of, cut_line, cut_lines, has_clocks_to, old_front_after, last_old_clock, AppendsFront, AppendsFront-more, input_is, known_lines, known_whole, real_lines, ended, migrated_from, migrated_records, migration_of, record_fault, with_text, part_answers, last_early_clock, old_refusal_of, longest_record, told_number, Early}
+use Rattle.cops_types.specs.declared.faults.Fault.TheVariants.{ClockTooGreat}
 use Rattle.cops_script.specs.declared.line_runs.fault.RunFault.TheVariants as fault
-use Rattle.cops_types.specs.Counts.{counted}
-use Rattle.cops_types.specs.Head.{Front, AtStart, Begun, is_begun}
-use Rattle.cops_script.specs.LineRules.{Run}
-use Rattle.cops_script.specs.LineRuns.{AnswersAll, IfRunRefused, StopsEarly}
-use Rattle.cops_types.specs.Lines.{lines_of, cut_line, cut_lines}
-use Rattle.cops_types.specs.OldHead.{has_clocks_to, old_front_after, last_old_clock}
-use Rattle.cops_types.specs.Sink.{AppendsFront}
-use Rattle.cops_script.proofs.KnownLemmas.{AppendsFront-more, input_is, known_lines, known_whole}
-use Rattle.cops_script.proofs.HeadRuns.{real_lines}
-use Rattle.cops_replay.specs.declared.migration_machine.OldAudit.{OldAudit}
-use Rattle.cops_replay.specs.declared.migration_machine.OldPart.{OldPart}
-use Rattle.cops_replay.specs.declared.migration_machine.OldPart.TheVariants.{Head, Records}
+use Rattle.cops_replay.specs.declared.migrations.OldAudit.{OldAudit}
+use Rattle.cops_replay.specs.declared.migrations.OldPart.{OldPart}
+use Rattle.cops_replay.specs.declared.migrations.OldPart.TheVariants.{Head, Records}
 use Rattle.cops_replay.specs.declared.migrations.MigrationRefusal.{MigrationRefusal}
 use Rattle.cops_replay.specs.declared.migrations.MigrationRefusal.TheVariants.{BadConfig, BadLine}
-use Rattle.cops_replay.specs.AuditText.{ended}
-use Rattle.cops_replay.specs.MigratedText.{Migration, bad_config_at, bad_line_at, ends_by, migrated_from, migrated_front, migrated_records, migration_of, record_fault, with_text}
-use Rattle.cops_replay.specs.MigrationRules.{OldHeadIsRefused, RecordRefuses, migration_answers, migration_end_refuses, migration_refuses, migration_rules, part_answers, part_ends, part_refuses, records_in}
-use Rattle.cops_replay.specs.OldRecords.{last_early_clock, old_refusal_of}
-use Rattle.cops_replay.specs.ReplayText.{longest_record, told_number}
-use Rattle.cops_replay.specs.declared.layouts.Layout.TheVariants.{Early}
+use Rattle.cops_replay.specs.MigratedText.{Migration, bad_config_at, bad_line_at, ends_by, migrated_front, OldHeadIsRefused, RecordRefuses, migration_answers, migration_end_refuses, migration_refuses, migration_rules, part_ends, part_refuses, records_in}
 use Rattle.cops_replay.proofs.AuditHeads.{cut_in_head}
 use Rattle.cops_replay.proofs.OldFronts.{FollowsTo, old_front_after-is}
 use Rattle.cops_replay.proofs.RecordRuns.{capped_more, same_cut}

@@ -1,28 +1,18 @@
 -- Heads of layout 1: the state to which a line leads, the length of the line, and what a reader says of it.
-use Rattle.std.proofs.Common.{◌≡◌, ℕ, suc, ◌+◌, ◌<◌, ◌≤◌, ◌^◌, ◌⊎◌, inl, inr, Bool, true, false, cond, List, [], ◌∷◌, ◌++◌, length, refl, sym, subst, ap, ◌∙◌, length-append, arith}
-use Rattle.std.specs.Prelude.{IsTrue, codes, decimal, Option, Some, None, IsFalse}
-use Rattle.std.specs.Option.{option_map, option_and_then}
-use Rattle.std.specs.Str.{bytes_eq}
-use Rattle.std.proofs.lemmas.Bool.Decides.{nat_tests}
+use Rattle.std.proofs.Common.{◌≡◌, ℕ, suc, ◌+◌, ◌<◌, ◌≤◌, ◌^◌, ◌⊎◌, inl, inr, Bool, true, false, cond, List, [], ◌∷◌, ◌++◌, length, refl, sym, subst, ap, ◌∙◌, length-append, arith, IsTrue, codes, decimal, Option, Some, None, IsFalse}
+use Rattle.cops_replay.proofs.Names.{option_and_then, bytes_eq, nat_tests, Config, Tenant, counted, Front, AtStart, Within, Begun, head_with, may_join, IsTenantLineTo, are_sizes, begin_line, cluster_in, tenant_line, last_old_clock, old_front_after, has_clocks_to, last_clock, spaced, front_after-finds, cluster_in-is, tenant_fits, front_after-short, bytes_from_test, same_value, last_early_clock}
+use Rattle.std.specs.Option.{option_map}
 use Rattle.std.proofs.lemmas.Fmt.{length-decimal-le}
-use Rattle.cops_types.specs.declared.configs.Config.{Config}
-use Rattle.cops_types.specs.declared.configs.Tenant.{Tenant}
 use Rattle.cops_types.specs.declared.heads.HeadLine.TheVariants.{More, Begin, BadLine}
-use Rattle.cops_types.specs.Counts.{counted}
-use Rattle.cops_types.specs.Head.{Front, AtStart, Within, Begun, Ends, Follows, head_with, may_join, with_tenant}
-use Rattle.cops_types.specs.HeadLines.{IsClusterLine, IsTenantLineTo, are_sizes, begin_line, cluster_in, is_tenant, tenant_line}
+use Rattle.cops_types.specs.Head.{Ends, Follows, with_tenant}
+use Rattle.cops_types.specs.HeadLines.{IsClusterLine, is_tenant}
 use Rattle.cops_types.specs.HeadReader.{said_at, still_open}
-use Rattle.cops_types.specs.OldHead.{last_old_clock, old_front_after, old_front_with, old_tenant_in, with_few_shards, has_clocks_to}
-use Rattle.cops_types.specs.Version.{last_clock}
-use Rattle.cops_types.specs.Words.{spaced}
-use Rattle.cops_types.proofs.FrontLemmas.{front_after-finds}
-use Rattle.cops_types.proofs.HeadLemmas.{cluster_in-is, tenant_fits, tenant_in_to-is}
-use Rattle.cops_types.proofs.HeadLengths.{front_after-short, tenant-short as todays-short}
+use Rattle.cops_types.specs.OldHead.{old_front_with, old_tenant_in, with_few_shards}
+use Rattle.cops_types.proofs.HeadLemmas.{tenant_in_to-is}
+use Rattle.cops_types.proofs.HeadLengths.{tenant-short as todays-short}
 use Rattle.cops_types.proofs.HeadReading.{clock_within, is_tenant-made, quota_of_tenant}
-use Rattle.cops_types.proofs.WordLemmas.{bytes_from_test, same_value}
 use Rattle.cops_replay.specs.OldHeads.{OldHeadContinues, has_sizes}
-use Rattle.cops_replay.specs.MigrationRules.{OldHeadGoesOn}
-use Rattle.cops_replay.specs.OldRecords.{last_early_clock}
+use Rattle.cops_replay.specs.MigratedText.{OldHeadGoesOn}
 
 -- ---- one line
 

@@ -1,25 +1,9 @@
 -- A replay has one result, and depends on the tenant's part of the file alone.
-use Rattle.std.proofs.Common.{◌≡◌, ℕ, ◌+◌, ◌||◌, List, [], ◌∷◌, map, inl, inr, refl, sym, subst, ap, ◌∙◌, arith}
-use Rattle.std.specs.Prelude.{Some, None, nat_lt}
-use Rattle.std.specs.List.{list_any}
-use Rattle.std.proofs.lemmas.Bool.Decides.{nat_tests}
-use Rattle.cops_types.specs.declared.configs.Config.{Config}
-use Rattle.cops_types.specs.declared.configs.Tenant.{Tenant}
-use Rattle.cops_types.specs.Head.{Whole, BadAt}
-use Rattle.cops_types.specs.Lines.{cut_line, lines_of}
-use Rattle.cops_types.specs.Slots.{slot_of_name}
-use Rattle.cops_types.specs.TenantConfig.{TenantConfig, tenant_config}
-use Rattle.cops_model.specs.SoloNode.{SoloNode}
-use Rattle.cops_replay.specs.declared.layouts.Layout.{Layout}
-use Rattle.cops_replay.specs.declared.layouts.Layout.TheVariants.{Today, Early}
-use Rattle.cops_replay.specs.declared.Record.{Record}
-use Rattle.cops_replay.specs.declared.Replayed.{Replayed}
-use Rattle.cops_replay.specs.declared.refusals.ReplayRefusal.{ReplayRefusal}
+use Rattle.std.proofs.Common.{◌≡◌, ℕ, ◌+◌, ◌||◌, List, [], ◌∷◌, map, inl, inr, refl, sym, subst, ap, ◌∙◌, arith, Some, None, nat_lt}
+use Rattle.cops_replay.proofs.Names.{list_any, nat_tests, Config, Tenant, Whole, BadAt, cut_line, lines_of, slot_of_name, TenantConfig, tenant_config, SoloNode, Layout, Today, Early, Record, Replayed, ReplayRefusal, last_early_clock, fresh_nodes, FindsBy, HasPart, IsRefusedBy, IsReplayBy, IsReplayOf, RefusesReplayOf, alone_lines, head_by, is_great_in, is_too_great_in, longest_record, seen_lines, starts_great_in, told_of}
 use Rattle.cops_replay.specs.declared.refusals.ReplayRefusal.TheVariants.{BadConfig, UnknownTenant, ClockTooGreat}
-use Rattle.cops_replay.specs.OldRecords.{last_early_clock}
-use Rattle.cops_replay.specs.Replaying.{fresh_nodes}
-use Rattle.cops_replay.specs.ReplayText.{FindsBy, HasPart, IsAuditFor, IsRefusedBy, IsReplayBy, IsReplayOf, RefusesReplayOf, alone_lines, head_by, is_great_in, longest_record, seen_lines, starts_great_in}
 use Rattle.cops_replay.specs.VersionLayouts.{nodes_after_in}
+use Rattle.cops_replay.specs.ReplayText.{IsAuditFor}
 use Rattle.cops_replay.proofs.RecordRuns.{great_cut, told_cut}
 
 one_found : (layout rules : Layout) (config : TenantConfig) (passed : ℕ) (nodes : List SoloNode) (lines : List (List ℕ)) (one other : Replayed) → FindsBy layout rules config passed nodes lines one → FindsBy layout rules config passed nodes lines other → one ≡ other
@@ -60,40 +44,56 @@ starts_alike : (layout : Layout) (c d : Config) (t u : Tenant) → tenant_config
 starts_alike Today c d t u same = refl
 starts_alike Early c d t u same = ap (λ (config : TenantConfig). nat_lt last_early_clock config.first_clock) same
 
--- lines are replayed as they are cut
-finds_cut : (layout rules : Layout) (config : TenantConfig) (passed : ℕ) (nodes : List SoloNode) (lines : List (List ℕ)) (found : Replayed) → FindsBy layout rules config passed nodes lines found →
-    FindsBy layout rules config passed nodes (map (cut_line longest_record) lines) found
-finds_cut layout rules config passed nodes [] found p = p
-finds_cut layout rules config passed nodes (line ∷ lines) found (inl (told, is, agrees, p)) =
-    inl (told, told_cut layout line ∙ is, agrees, finds_cut layout rules config (passed + 1) (nodes_after_in rules config told nodes) lines found p)
-finds_cut layout rules config passed nodes (line ∷ lines) found (inr (differs, e)) = inr ((λ told is agrees. differs told (sym (told_cut layout line) ∙ is) agrees), e)
+-- lines of which the same records are read are replayed alike
+pub finds_alike : (one other rules : Layout) (config : TenantConfig) (passed : ℕ) (nodes : List SoloNode) (lines others : List (List ℕ)) (found : Replayed) → map (told_of one) lines ≡ map (told_of other) others →
+    FindsBy one rules config passed nodes lines found → FindsBy other rules config passed nodes others found
+finds_alike one other rules config passed nodes [] [] found same p = p
+finds_alike one other rules config passed nodes [] (o ∷ others) found same p = absurd (let no : ⊥ = cc in no)
+finds_alike one other rules config passed nodes (line ∷ lines) [] found same p = absurd (let no : ⊥ = cc in no)
+finds_alike one other rules config passed nodes (line ∷ lines) (o ∷ others) found same (inl (told, is, agrees, p)) =
+    let first : told_of one line ≡ told_of other o = cc in
+    let later : map (told_of one) lines ≡ map (told_of other) others = cc in
+    inl (told, sym first ∙ is, agrees, finds_alike one other rules config (passed + 1) (nodes_after_in rules config told nodes) lines others found later p)
+finds_alike one other rules config passed nodes (line ∷ lines) (o ∷ others) found same (inr (differs, e)) = let first : told_of one line ≡ told_of other o = cc in inr ((λ told is. differs told (first ∙ is)), e)
 
-finds_uncut : (layout rules : Layout) (config : TenantConfig) (passed : ℕ) (nodes : List SoloNode) (lines : List (List ℕ)) (found : Replayed) → FindsBy layout rules config passed nodes (map (cut_line longest_record) lines) found →
-    FindsBy layout rules config passed nodes lines found
-finds_uncut layout rules config passed nodes [] found p = p
-finds_uncut layout rules config passed nodes (line ∷ lines) found (inl (told, is, agrees, p)) =
-    inl (told, sym (told_cut layout line) ∙ is, agrees, finds_uncut layout rules config (passed + 1) (nodes_after_in rules config told nodes) lines found p)
-finds_uncut layout rules config passed nodes (line ∷ lines) found (inr (differs, e)) = inr ((λ told is agrees. differs told (told_cut layout line ∙ is) agrees), e)
+-- they are read as they are cut
+told_cuts : (layout : Layout) (lines : List (List ℕ)) → map (told_of layout) (map (cut_line longest_record) lines) ≡ map (told_of layout) lines
+told_cuts layout [] = refl
+told_cuts layout (line ∷ lines) = λ i. told_cut layout line i ∷ told_cuts layout lines i
 
 any_cut : (layout : Layout) (lines : List (List ℕ)) → list_any (is_great_in layout) (map (cut_line longest_record) lines) ≡ list_any (is_great_in layout) lines
 any_cut layout [] = refl
 any_cut layout (line ∷ lines) = λ i. great_cut layout line i || any_cut layout lines i
 
 module _ (name one other : List ℕ) (layout : Layout) (config : TenantConfig) (own : List (List ℕ)) (p : HasPart name one layout config own) (q : HasPart name other layout config own) where
+  -- what the replay of an audit of the first depends on is the same in the other
+  record Same (a : IsAuditFor layout name (lines_of one)) : Type 0 where
+    config_is : tenant_config a.config a.tenant ≡ tenant_config q.audit.config q.audit.tenant
+    told : map (told_of layout) (alone_lines name a.records) ≡ map (told_of layout) (alone_lines name q.audit.records)
+    great : is_too_great_in layout a.tenant (alone_lines name a.records) ≡ is_too_great_in layout q.audit.tenant (alone_lines name q.audit.records)
+
+  same_in : (a : IsAuditFor layout name (lines_of one)) → Same a
+  same_in a =
+      let same = same_tenant name layout (lines_of one) a p.audit in
+      let mine : tenant_config a.config a.tenant ≡ tenant_config q.audit.config q.audit.tenant = (λ i. tenant_config (same.config i) (same.tenant i)) ∙ p.config_is ∙ sym q.config_is in
+      let lines : seen_lines name a.records ≡ seen_lines name q.audit.records = ap (seen_lines name) same.records ∙ p.own_is ∙ sym q.own_is in
+      let any = sym (any_cut layout (alone_lines name a.records)) ∙ ap (list_any (is_great_in layout)) lines ∙ any_cut layout (alone_lines name q.audit.records) in
+      record {
+        config_is = mine;
+        told = sym (told_cuts layout (alone_lines name a.records)) ∙ ap (map (told_of layout)) lines ∙ told_cuts layout (alone_lines name q.audit.records);
+        great = λ i. starts_alike layout a.config q.audit.config a.tenant q.audit.tenant mine i || any i;
+      }
+
   replayed_by : (text : List ℕ) → IsReplayBy layout name (lines_of one) text → IsReplayBy layout name (lines_of other) text
   replayed_by text r =
-      let same = same_tenant name layout (lines_of one) r.audit p.audit in
-      let mine : tenant_config r.audit.config r.audit.tenant ≡ tenant_config q.audit.config q.audit.tenant = (λ i. tenant_config (same.config i) (same.tenant i)) ∙ p.config_is ∙ sym q.config_is in
-      let lines : seen_lines name r.audit.records ≡ seen_lines name q.audit.records = ap (seen_lines name) same.records ∙ p.own_is ∙ sym q.own_is in
-      let any = sym (any_cut layout (alone_lines name q.audit.records)) ∙ ap (list_any (is_great_in layout)) (sym lines) ∙ any_cut layout (alone_lines name r.audit.records) in
+      let same = same_in r.audit in
+      let its = tenant_config q.audit.config q.audit.tenant in
       record {
         audit = q.audit;
-        fits = (λ i. sym (starts_alike layout r.audit.config q.audit.config r.audit.tenant q.audit.tenant mine) i || any i) ∙ r.fits;
+        fits = sym same.great ∙ r.fits;
         found = r.found;
-        finds = finds_uncut layout layout (tenant_config q.audit.config q.audit.tenant) 0 (fresh_nodes (tenant_config q.audit.config q.audit.tenant)) (alone_lines name q.audit.records) r.found
-            (subst (λ ls. FindsBy layout layout (tenant_config q.audit.config q.audit.tenant) 0 (fresh_nodes (tenant_config q.audit.config q.audit.tenant)) ls r.found) lines
-            (finds_cut layout layout (tenant_config q.audit.config q.audit.tenant) 0 (fresh_nodes (tenant_config q.audit.config q.audit.tenant)) (alone_lines name r.audit.records) r.found
-            (subst (λ (c : TenantConfig). FindsBy layout layout c 0 (fresh_nodes c) (alone_lines name r.audit.records) r.found) mine r.finds)));
+        finds = finds_alike layout layout layout its 0 (fresh_nodes its) (alone_lines name r.audit.records) (alone_lines name q.audit.records) r.found same.told
+            (subst (λ (c : TenantConfig). FindsBy layout layout c 0 (fresh_nodes c) (alone_lines name r.audit.records) r.found) same.config_is r.finds);
         text_is = r.text_is;
       }
 
@@ -106,15 +106,7 @@ module _ (name one other : List ℕ) (layout : Layout) (config : TenantConfig) (
   refused_by UnknownTenant (found, rest, head, none) =
       let same = same_whole name layout (lines_of one) found p.audit.config rest p.audit.records head p.audit.head in
       absurd (let e : None ≡ Some p.audit.slot = sym none ∙ ap (λ (x : Config). slot_of_name x.tenants name) same.0 ∙ p.audit.there in let no : ⊥ = cc in no)
-  refused_by ClockTooGreat r =
-      let same = same_tenant name layout (lines_of one) r.audit p.audit in
-      let mine : tenant_config r.audit.config r.audit.tenant ≡ tenant_config q.audit.config q.audit.tenant = (λ i. tenant_config (same.config i) (same.tenant i)) ∙ p.config_is ∙ sym q.config_is in
-      let lines : seen_lines name r.audit.records ≡ seen_lines name q.audit.records = ap (seen_lines name) same.records ∙ p.own_is ∙ sym q.own_is in
-      let any = sym (any_cut layout (alone_lines name q.audit.records)) ∙ ap (list_any (is_great_in layout)) (sym lines) ∙ any_cut layout (alone_lines name r.audit.records) in
-      record {
-        audit = q.audit;
-        great = (λ i. sym (starts_alike layout r.audit.config q.audit.config r.audit.tenant q.audit.tenant mine) i || any i) ∙ r.great;
-      }
+  refused_by ClockTooGreat r = record { audit = q.audit; great = sym (same_in r.audit).great ∙ r.great }
 
   pub refused_alike : (refusal : ReplayRefusal) → RefusesReplayOf name one refusal → RefusesReplayOf name other refusal
   refused_alike refusal r =

@@ -1,22 +1,10 @@
 -- The audit of the open tenants is that of their list and of their slots.
-use Rattle.std.proofs.Common.{◌≡◌, ℕ, List, refl, sym, subst, arith}
-use Rattle.std.specs.Prelude.{slice_index_or, Option}
-use Rattle.std.specs.List.{AllByRecursion}
-use Rattle.std.proofs.lemmas.Bool.Decides.{nat_tests}
-use Rattle.cops_types.specs.declared.configs.Config.{Config}
-use Rattle.cops_types.specs.declared.configs.Tenant.{Tenant}
-use Rattle.cops_types.specs.Head.{Whole, head_of}
-use Rattle.cops_types.specs.TenantConfig.{tenant_config}
-use Rattle.cops_node.specs.Clusters.{shape_of, IsCluster}
-use Rattle.cops_node.specs.Parts.{AuditFits, Shared}
-use Rattle.cops_replay.specs.OpenAudits.{AreNodesAt, AreNodesOfOpen, audit_at, nodes_at, open_audit_of, open_config_of, open_nodes_of, open_slots, open_tenants, with_tenants}
-use Rattle.cops_replay.specs.WrittenAudits.{AllReplaySame, AreFormed, HaveLines, SaysSame}
-use Rattle.cops_replay.proofs.NodeAudits.{cluster_replays_same}
+use Rattle.std.proofs.Common.{◌≡◌, ℕ, List, refl, sym, subst, arith, slice_index_or, Option}
+use Rattle.cops_replay.proofs.Names.{AllByRecursion, nat_tests, Config, Tenant, Whole, head_of, tenant_config, shape_of, IsCluster, AuditFits, Shared, AreNodesAt, AreNodesOfOpen, audit_at, nodes_at, open_audit_of, open_slots, open_tenants, with_tenants, audit_text, AllReplaySame, AreFormed, HaveLines, SaysSame, HasItsTenants, open_config, open_nodes, KeptWorld}
+use Rattle.cops_replay.specs.AuditText.{open_config_of, open_nodes_of}
+use Rattle.cops_replay.proofs.AuditReplays.{cluster_replays_same}
 use Rattle.cops_replay.proofs.OpenLists.{nodes_of_open}
 use Rattle.cops_replay.proofs.WrittenAudits.{says_same}
-use Rattle.cops_replay.specs.AuditRuns.{HasItsTenants, open_config, open_nodes}
-use Rattle.cops_replay.specs.AuditText.{audit_text}
-use Rattle.cops_world.specs.Worlds.{KeptWorld}
 
 -- these are the open tenants, and their slots
 pub record AreOpenOf (tenants : List (Option Tenant)) (found : List Tenant) (slots : List ℕ) : Type 0 where

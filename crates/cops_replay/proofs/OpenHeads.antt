@@ -1,29 +1,16 @@
 -- The tenants who are open behind the lines of a script could stand in a head.
-use Rattle.std.proofs.Common.{◌≡◌, ℕ, zero, suc, ◌+◌, ◌-◌, ◌<◌, ◌≤◌, Bool, true, false, cond, ◌==◌, List, [], ◌∷◌, ◌++◌, length, map, set, refl, sym, ap, ◌∙◌, append-nil, arith}
-use Rattle.std.specs.Prelude.{codes, replicate, slice_get, Option, Some, None}
-use Rattle.std.specs.List.{AllByRecursion, list_any}
-use Rattle.std.specs.Str.{bytes_eq}
-use Rattle.std.proofs.Math.ListN.{length-set}
-use Rattle.std.proofs.lemmas.Bool.Decides.{nat_tests}
-use Rattle.cops_types.specs.declared.configs.Config.{Config}
-use Rattle.cops_types.specs.declared.configs.Tenant.{Tenant}
-use Rattle.cops_types.specs.declared.faults.Fault.{Fault}
-use Rattle.cops_types.specs.Head.{AtStart, Whole, head_of}
-use Rattle.cops_types.specs.HeadLines.{most_tenants, tenant_in}
+use Rattle.std.proofs.Common.{◌≡◌, ℕ, zero, suc, ◌+◌, ◌-◌, ◌<◌, ◌≤◌, Bool, true, false, cond, ◌==◌, List, [], ◌∷◌, ◌++◌, length, map, set, refl, sym, ap, ◌∙◌, append-nil, arith, codes, replicate, slice_get, Option, Some, None}
+use Rattle.cops_replay.proofs.Names.{AllByRecursion, list_any, bytes_eq, length-set, nat_tests, Config, Tenant, Fault, AtStart, Whole, head_of, most_tenants, begun_with, has_name, open_at, open_slot_of_name, AreApart, has_text, first_word, last_clock, both_fail, left_fails, right_fails, said_to, left_config, open_tenants, with_tenants}
+use Rattle.cops_types.specs.HeadLines.{tenant_in}
 use Rattle.cops_script.specs.HostLines.{admitted_in, closed_in, plus}
-use Rattle.cops_types.specs.OpenSlots.{admission_refusal, begun_with, has_name, has_token, open_at, open_slot_of_name}
-use Rattle.cops_types.specs.TenantTexts.{AreApart, has_text}
-use Rattle.cops_types.specs.Words.{first_word}
-use Rattle.cops_types.specs.Version.{last_clock}
+use Rattle.cops_types.specs.OpenSlots.{admission_refusal, has_token}
 use Rattle.cops_types.proofs.BegunSlots.{apart_behind}
 use Rattle.cops_types.proofs.HeadLemmas.{tenant_in-is}
 use Rattle.cops_script.proofs.HostLineLemmas.{admitted-good}
-use Rattle.cops_types.proofs.OpenSlotLemmas.{apart_left, apart_put, both_fail, left_fails, right_fails}
+use Rattle.cops_types.proofs.OpenSlotLemmas.{apart_left, apart_put}
 use Rattle.cops_script.specs.Said.{Said, OfHost, admission_of, admission_unless, begins_admission, begins_closing, closing_of, said_found, said_in, tenants_after, tenants_past}
 use Rattle.cops_model.specs.Setups.{next_slot}
-use Rattle.cops_script.specs.Script.{said_to}
 use Rattle.cops_script.proofs.OpenSets.{may_be_given}
-use Rattle.cops_replay.specs.OpenAudits.{left_config, open_tenants, with_tenants}
 use Rattle.cops_replay.proofs.AuditTexts.{each_at}
 use Rattle.cops_replay.proofs.HeadsBack.{AreAllApart, AreFit, IsFit, IsOfHead, IsToken, head_leads, head_read, of_head, parsed_token, written_head}
 
@@ -141,28 +128,29 @@ module _ (text_of : Tenant → List ℕ) where
   apart_open (None ∷ tenants) apart = apart_open tenants apart
   apart_open (Some t ∷ tenants) apart = (none_open (text_of t) tenants apart.0, apart_open tenants apart.1)
 
--- the lines of such a head
-pub open_head : (lines rest : List (List ℕ)) (config : Config) → head_of lines ≡ Whole config rest → head_of (written_head (left_config config rest)) ≡ Whole (left_config config rest) []
-open_head lines rest config head =
-    let is = of_head lines rest config head in
-    let begun = begun_with config.tenants in
-    let tenants = tenants_past begun (said_to begun rest) in
-    let can = past_stands begun rest (begun_stands config is) in
-    let few = few_open tenants in
-    let all = can.all in
-    let leads = head_leads config (open_tenants tenants) is.sizes (omega (arith, few, all)) (fit_open tenants can.fit)
-    (record { names = apart_open (λ t. t.name) tenants can.apart.names; tokens = apart_open (λ t. t.token) tenants can.apart.tokens }) in
-    ap head_of (sym (append-nil (written_head (left_config config rest)))) ∙ head_read (written_head (left_config config rest)) [] 1 AtStart (left_config config rest) leads
+module _ (lines rest : List (List ℕ)) (config : Config) (head : head_of lines ≡ Whole config rest) where
+  abbrev tenants : List (Option Tenant)
+  tenants = tenants_past (begun_with config.tenants) (said_to (begun_with config.tenants) rest)
 
--- and those of a head with one of them alone
-pub lone_head : (lines rest : List (List ℕ)) (config : Config) (place : ℕ) (tenant : Tenant) → head_of lines ≡ Whole config rest → slice_get (left_config config rest).tenants place ≡ Some tenant →
-    head_of (written_head (with_tenants config (tenant ∷ []))) ≡ Whole (with_tenants config (tenant ∷ [])) []
-lone_head lines rest config place tenant head at =
-    let is = of_head lines rest config head in
-    let begun = begun_with config.tenants in
-    let tenants = tenants_past begun (said_to begun rest) in
-    let can = past_stands begun rest (begun_stands config is) in
-    let fit = each_at (IsFit last_clock) (open_tenants tenants) place tenant (fit_open tenants can.fit) at in
-    let lone = with_tenants config (tenant ∷ []) in
-    let leads = head_leads config (tenant ∷ []) is.sizes (omega arith) (fit, tt) (record { names = (refl, tt); tokens = (refl, tt) }) in
-    ap head_of (sym (append-nil (written_head lone))) ∙ head_read (written_head lone) [] 1 AtStart lone leads
+  is : IsOfHead last_clock config
+  is = of_head lines rest config head
+
+  can : CanStand tenants
+  can = past_stands (begun_with config.tenants) rest (begun_stands config is)
+
+  -- the lines of such a head
+  pub open_head : head_of (written_head (left_config config rest)) ≡ Whole (left_config config rest) []
+  open_head =
+      let few = few_open tenants in
+      let all = can.all in
+      let leads = head_leads config (open_tenants tenants) is.sizes (omega (arith, few, all)) (fit_open tenants can.fit)
+      (record { names = apart_open (λ t. t.name) tenants can.apart.names; tokens = apart_open (λ t. t.token) tenants can.apart.tokens }) in
+      ap head_of (sym (append-nil (written_head (left_config config rest)))) ∙ head_read (written_head (left_config config rest)) [] 1 AtStart (left_config config rest) leads
+
+  -- and those of a head with one of them alone
+  pub lone_head : (place : ℕ) (tenant : Tenant) → slice_get (left_config config rest).tenants place ≡ Some tenant → head_of (written_head (with_tenants config (tenant ∷ []))) ≡ Whole (with_tenants config (tenant ∷ [])) []
+  lone_head place tenant at =
+      let fit = each_at (IsFit last_clock) (open_tenants tenants) place tenant (fit_open tenants can.fit) at in
+      let lone = with_tenants config (tenant ∷ []) in
+      let leads = head_leads config (tenant ∷ []) is.sizes (omega arith) (fit, tt) (record { names = (refl, tt); tokens = (refl, tt) }) in
+      ap head_of (sym (append-nil (written_head lone))) ∙ head_read (written_head lone) [] 1 AtStart lone leads

@@ -1,19 +1,7 @@
 -- The tenants who are open, by their places, and the slots of these places.
-use Rattle.std.proofs.Common.{◌≡◌, ℕ, zero, suc, ◌+◌, List, [], ◌∷◌, ◌++◌, length, map, refl, sym, ap, ◌∙◌, arith}
-use Rattle.std.specs.Prelude.{slice_get, slice_index_or, Option, Some, None}
-use Rattle.std.specs.List.{range_with_len}
+use Rattle.std.proofs.Common.{◌≡◌, ℕ, zero, suc, ◌+◌, List, [], ◌∷◌, ◌++◌, length, map-id, refl, sym, ap, ◌∙◌, arith, slice_get, slice_index_or, Option, Some, None}
+use Rattle.cops_replay.proofs.Names.{range_with_len, slice_get_within, nat_tests, Config, Tenant, open_at, tenant_config, HasTenant, IsCluster, shape_of, Shared, AreNodesOf, audit_of, audit_text, his_nodes, AreNodesAt, audit_at, nodes_at, open_slots, open_tenants, slots_from, with_tenants, AreFormed}
 use Rattle.std.proofs.lemmas.List.FromFn.{get_or-range_with_len, length-range_with_len, map-range_with_len_more}
-use Rattle.std.proofs.lemmas.Option.{slice_get_within}
-use Rattle.std.proofs.lemmas.Bool.Decides.{nat_tests}
-use Rattle.cops_types.specs.declared.configs.Config.{Config}
-use Rattle.cops_types.specs.declared.configs.Tenant.{Tenant}
-use Rattle.cops_types.specs.OpenSlots.{open_at}
-use Rattle.cops_types.specs.TenantConfig.{tenant_config}
-use Rattle.cops_node.specs.Clusters.{HasTenant, IsCluster, shape_of}
-use Rattle.cops_node.specs.Parts.{Shared}
-use Rattle.cops_replay.specs.AuditText.{AreNodesOf, audit_of, audit_text, his_nodes}
-use Rattle.cops_replay.specs.OpenAudits.{AreNodesAt, audit_at, nodes_at, open_slots, open_tenants, slots_from, with_tenants}
-use Rattle.cops_replay.specs.WrittenAudits.{AreFormed}
 use Rattle.cops_replay.proofs.AuditTexts.{audit_text-same}
 
 -- ---- the slot of a place
@@ -59,14 +47,10 @@ nodes_of_open config tenants nodes by_number each = grind (arith, nat_tests, as_
 
 -- ---- of a configuration's own tenants, each in the slot of its place
 
-all_same : (xs : List ℕ) → map (λ x. x) xs ≡ xs
-all_same [] = refl
-all_same (x ∷ xs) = ap (λ l. x ∷ l) (all_same xs)
-
 -- the first slots, and one more
 pub one_more_first : (n : ℕ) → range_with_len 0 (n + 1) ≡ range_with_len 0 n ++ n ∷ []
 one_more_first n =
-    sym (all_same (range_with_len 0 (n + 1))) ∙ map-range_with_len_more (λ x. x) 0 n n (let same : 0 + n ≡ n = omega arith in same) ∙ ap (λ l. l ++ n ∷ []) (all_same (range_with_len 0 n))
+    sym (map-id (range_with_len 0 (n + 1))) ∙ map-range_with_len_more (λ x. x) 0 n n (let same : 0 + n ≡ n = omega arith in same) ∙ ap (λ l. l ++ n ∷ []) (map-id (range_with_len 0 n))
 
 -- these are the configuration's tenants, and their slots
 pub record AreFirst (config : Config) (tenants : List Tenant) (slots : List ℕ) : Type 0 where

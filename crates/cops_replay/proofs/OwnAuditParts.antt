@@ -1,42 +1,15 @@
 -- One tenant's part of the audit of a script is the one that is cut out of the whole.
-use Rattle.std.proofs.Common.{◌≡◌, ℕ, zero, suc, ◌+◌, Bool, true, false, cond, List, [], ◌∷◌, ◌++◌, length, map, refl, sym, subst, ap, ◌∙◌, append-nil, arith}
-use Rattle.std.specs.Prelude.{Option, Some, None, flat_map, slice_get, slice_index_or}
-use Rattle.std.specs.List.{AllByRecursion}
-use Rattle.std.specs.Str.{bytes_eq}
-use Rattle.std.proofs.lemmas.Bool.Decides.{nat_tests}
-use Rattle.std.proofs.lemmas.List.Folds.{flat_map-map}
-use Rattle.std.proofs.lemmas.List.{take_all}
-use Rattle.cops_types.specs.declared.configs.Config.{Config}
-use Rattle.cops_types.specs.declared.configs.Tenant.{Tenant}
-use Rattle.cops_types.specs.Head.{HeadReading, Whole, BadAt, head_of}
-use Rattle.cops_types.specs.Lines.{cut_line, lines_of}
-use Rattle.cops_types.specs.OpenSlots.{first_from, has_name, open_at, open_slot_of_name}
-use Rattle.cops_types.specs.Slots.{slot_of_name}
-use Rattle.cops_types.specs.TenantConfig.{TenantConfig, tenant_config}
-use Rattle.cops_types.proofs.WordLemmas.{bytes_from_test, same_value}
-use Rattle.cops_model.specs.SoloNode.{SoloNode}
-use Rattle.cops_script.specs.Script.{Written}
-use Rattle.cops_script.specs.ScriptWorlds.{cluster_left, life_left, setup_left}
-use Rattle.cops_script.proofs.ApartTenants.{found_at}
-use Rattle.cops_replay.specs.declared.layouts.Layout.{Layout}
-use Rattle.cops_replay.specs.declared.layouts.Layout.TheVariants.{Today}
-use Rattle.cops_replay.specs.declared.Record.{Record}
-use Rattle.cops_replay.specs.declared.refusals.PartRefusal.{PartRefusal}
+use Rattle.std.proofs.Common.{◌≡◌, ℕ, zero, suc, ◌+◌, Bool, true, false, cond, List, [], ◌∷◌, ◌++◌, length, map, refl, sym, subst, ap, ◌∙◌, append-nil, arith, Option, Some, None, flat_map, slice_get, slice_index_or}
+use Rattle.cops_replay.proofs.Names.{AllByRecursion, bytes_eq, nat_tests, flat_map-map, take_all, Config, Tenant, HeadReading, Whole, BadAt, head_of, cut_line, lines_of, has_name, open_at, open_slot_of_name, slot_of_name, TenantConfig, tenant_config, bytes_from_test, same_value, SoloNode, Written, cluster_left, life_left, setup_left, found_at, Layout, Today, Record, PartRefusal, audit_after, audit_out, AreFormed, AreFormedFor, his_records, audit_text, ended, records_of, records_text, tenants_text, left_config, left_nodes, open_tenants, slots_from, with_tenants, IsOpenIn, IsOwnAudit, IsOwnAuditAfter, IsOwnAuditOf, RefusesOwnAuditAfter, RefusesOwnAuditOf, own_records, own_audit_text, IsPartBy, IsPartOf, RefusesPartBy, RefusesPartOf, layout_lines, lone_head_lines, record_line, HasLine, alone_lines, head_by, layout_of, longest_record, seen_lines}
+use Rattle.cops_types.specs.OpenSlots.{first_from}
 use Rattle.cops_replay.specs.declared.refusals.PartRefusal.TheVariants.{BadConfig, UnknownTenant}
-use Rattle.cops_replay.specs.AuditRuns.{audit_after, audit_out}
-use Rattle.cops_replay.specs.AuditText.{audit_text, ended, records_of, records_text, tenants_text}
-use Rattle.cops_replay.specs.OpenAudits.{left_config, left_nodes, open_tenants, slots_from, with_tenants}
-use Rattle.cops_replay.specs.OwnAudits.{IsOpenIn, IsOwnAudit, IsOwnAuditAfter, IsOwnAuditOf, RefusesOwnAuditAfter, RefusesOwnAuditOf, own_records, own_audit_text}
-use Rattle.cops_replay.specs.OwnParts.{IsPartBy, IsPartOf, RefusesPartBy, RefusesPartOf, layout_lines, lone_head_lines, part_text}
-use Rattle.cops_replay.specs.RecordText.{record_line}
-use Rattle.cops_replay.specs.ReplayText.{HasLine, alone_lines, head_by, layout_of, longest_record, seen_lines}
-use Rattle.cops_replay.specs.WrittenAudits.{AreFormed, AreFormedFor, his_records}
-use Rattle.cops_replay.proofs.AuditLines.{head_known, named_at}
+use Rattle.cops_replay.specs.OwnParts.{part_text}
+use Rattle.cops_replay.proofs.AuditLines.{head_known, lines_his, named_at}
 use Rattle.cops_replay.proofs.HeadsBack.{written_head}
 use Rattle.cops_replay.proofs.HeadTexts.{head_text_is, text_is_todays, text_reads_back}
 use Rattle.cops_replay.proofs.OpenHeads.{open_head}
 use Rattle.cops_replay.proofs.ShortLines.{lines_at}
-use Rattle.cops_replay.proofs.WrittenAudits.{his_lines, same_text}
+use Rattle.cops_replay.proofs.WrittenAudits.{same_text}
 use Rattle.cops_replay.proofs.LineLengths.{at_most}
 use Rattle.cops_replay.proofs.OpenLists.{open_there}
 
@@ -142,7 +115,7 @@ module _ (read rest : List (List ℕ)) (config : Config) (head : head_of read �
       let at = has_place name own.slot own.tenant own.opened in
       let its = his_records left nodes at.place own.tenant in
       let lines : alone_lines own.tenant.name (lines_of text) ≡ map (record_line own.tenant.name) its =
-      his_lines (written_head left) [] left nodes at.place own.tenant (open_head read rest config head) formed at.listed in
+      lines_his left nodes (written_head left) [] at.place own.tenant (open_head read rest config head) formed at.listed in
       let seen : seen_lines name (lines_of text) ≡ map (record_line own.tenant.name) (own_records config rest own.slot own.tenant) =
       ap (λ n. seen_lines n (lines_of text)) (sym at.named) ∙ ap (map (cut_line longest_record)) lines
       ∙ uncut own.tenant.name its (lines_at read rest config at.place own.tenant head at.listed (formed at.place own.tenant at.listed))

@@ -1,17 +1,13 @@
 -- Text that is put, piece by piece.
-use Rattle.std.proofs.Common.{◌≡◌, ℕ, List, [], ◌++◌, Option, Result, Ok, Err, refl, sym, subst, ap, ◌∙◌, append_assoc, append-nil, arith}
-use Rattle.std.specs.Prelude.{IfErr}
-use Rattle.std.specs.Io.KnownBytes.{Appends}
+use Rattle.std.proofs.Common.{◌≡◌, ℕ, List, [], ◌++◌, Option, Result, Ok, Err, refl, sym, subst, ap, ◌∙◌, append_assoc, append-nil, arith, IfErr}
+use Rattle.cops_replay.proofs.Names.{Appends, nat_tests, AppendsFront, AppendsFront-more, page}
 use Rattle.std.proofs.KnownBytes.{Appends-nil, Appends-trans}
-use Rattle.std.proofs.lemmas.Bool.Decides.{nat_tests}
 use Rattle.cops_types.specs.declared.request_errors.RequestError.{RequestError}
 use Rattle.cops_types.specs.declared.faults.Fault.TheVariants.{WriteFault}
 use Rattle.cops_types.specs.declared.request_errors.RequestError.TheVariants.{OutOfMemory, Refused}
 use Rattle.cops_types.specs.Counts.{HasRisen}
 use Rattle.cops_types.specs.RequestErrors.{IfRefusal, OnRefusal}
-use Rattle.cops_types.specs.Sink.{AppendsFront}
-use Rattle.cops_script.proofs.KnownLemmas.{AppendsFront-more}
-use Rattle.cops_replay.specs.Pages.{FailsBy, Page, PutsText, page}
+use Rattle.cops_replay.specs.Pages.{FailsBy, Page, PutsText}
 
 -- nothing is written
 pub front_of_none : (contents : Option (List ℕ)) (text : List ℕ) → AppendsFront contents contents text
@@ -62,22 +58,22 @@ pub all_left : (whole : List ℕ) (old : Page) → IsLeft whole whole old old
 all_left whole old = record { done = []; whole_is = refl; put = (record { written = []; whole = append-nil old.waiting; appended = Appends-nil old.contents }, refl) }
 
 -- one more piece was put
-pub less_left : (whole piece more left : List ℕ) (old mid new : Page) → left ≡ piece ++ more → IsLeft whole left old mid → PutsText {T = Unit {0}} piece mid (Ok tt) new → IsLeft whole more old new
-less_left whole piece more left old mid new e p q = record {
+pub less_left : {whole left : List ℕ} {old mid : Page} (piece more : List ℕ) (new : Page) → left ≡ piece ++ more → IsLeft whole left old mid → PutsText {T = Unit {0}} piece mid (Ok tt) new → IsLeft whole more old new
+less_left {old = old} {mid = mid} piece more new e p q = record {
   done = p.done ++ piece;
   whole_is = append_assoc p.done piece more ∙ ap (λ l. p.done ++ l) (sym e) ∙ p.whole_is;
   put = Puts-then p.done piece old mid tt (Ok tt) new p.put q;
 }
 
 -- the next piece ended early
-pub left_early : (whole piece more left : List ℕ) (old mid : Page) (error : RequestError) (new : Page) → left ≡ piece ++ more → IsLeft whole left old mid → PutsText {T = Unit {0}} piece mid (Err error) new →
+pub left_early : {whole left : List ℕ} {old mid : Page} (piece more : List ℕ) (error : RequestError) (new : Page) → left ≡ piece ++ more → IsLeft whole left old mid → PutsText {T = Unit {0}} piece mid (Err error) new →
     PutsText {T = Unit {0}} whole old (Err error) new
-left_early whole piece more left old mid error new e p q =
+left_early {old = old} {mid = mid} piece more error new e p q =
     subst (λ l. PutsText {T = Unit {0}} l old (Err error) new) (append_assoc p.done piece more ∙ ap (λ l. p.done ++ l) (sym e) ∙ p.whole_is)
     (Puts-more (p.done ++ piece) more old error new (Puts-then p.done piece old mid tt (Err error) new p.put q))
 
-pub none_left : (whole left : List ℕ) (old new : Page) → left ≡ [] → IsLeft whole left old new → PutsText {T = Unit {0}} whole old (Ok tt) new
-none_left whole left old new e p = subst (λ l. PutsText {T = Unit {0}} l old (Ok tt) new) (sym (append-nil p.done) ∙ ap (λ l. p.done ++ l) (sym e) ∙ p.whole_is) p.put
+pub none_left : {whole left : List ℕ} {old new : Page} → left ≡ [] → IsLeft whole left old new → PutsText {T = Unit {0}} whole old (Ok tt) new
+none_left {old = old} {new = new} e p = subst (λ l. PutsText {T = Unit {0}} l old (Ok tt) new) (sym (append-nil p.done) ∙ ap (λ l. p.done ++ l) (sym e) ∙ p.whole_is) p.put
 
 -- ---- text that was put after text that waited
 

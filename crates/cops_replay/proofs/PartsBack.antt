@@ -1,31 +1,11 @@
 -- A tenant's own part of an audit is an audit of the same layout, with the same part.
-use Rattle.std.proofs.Common.{◌≡◌, ℕ, zero, suc, ◌+◌, ◌≤◌, Bool, true, false, cond, inl, inr, List, [], ◌∷◌, ◌++◌, length, map, take, refl, sym, subst, ap, ◌∙◌, arith}
-use Rattle.std.specs.Prelude.{Some}
-use Rattle.std.specs.List.{AllByRecursion}
-use Rattle.std.specs.Option.{option_and_then}
-use Rattle.std.specs.Str.{bytes_eq}
-use Rattle.std.proofs.lemmas.List.{take_all, length-take}
-use Rattle.std.proofs.lemmas.Bool.Decides.{nat_tests}
-use Rattle.cops_types.specs.declared.configs.Config.{Config}
-use Rattle.cops_types.specs.declared.configs.Tenant.{Tenant}
-use Rattle.cops_types.specs.Head.{Front, AtStart, Within, Begun, Whole, head_with}
-use Rattle.cops_types.specs.HeadLines.{begin_line, cluster_line, tenant_in_to}
-use Rattle.cops_types.specs.Lines.{cut_line, lines_of}
-use Rattle.cops_types.specs.Slots.{slot_of_name}
-use Rattle.cops_types.specs.TenantConfig.{tenant_config}
-use Rattle.cops_types.specs.Words.{first_word, newline}
-use Rattle.cops_types.proofs.HeadLemmas.{tenant_fits, tenant_in_to-finds}
-use Rattle.cops_types.proofs.WordLemmas.{Lacks, bytes_from_test, lacks_from_test, same_bytes, same_value}
+use Rattle.std.proofs.Common.{◌≡◌, ℕ, zero, suc, ◌+◌, ◌≤◌, Bool, true, false, cond, inl, inr, List, [], ◌∷◌, ◌++◌, length, map, take, refl, sym, subst, ap, ◌∙◌, arith, Some}
+use Rattle.cops_replay.proofs.Names.{AllByRecursion, option_and_then, bytes_eq, take_all, nat_tests, Config, Tenant, Front, AtStart, Within, Begun, Whole, head_with, begin_line, cluster_line, cut_line, lines_of, slot_of_name, tenant_config, first_word, newline, Every-filter, tenant_fits, Lacks, bytes_from_test, lacks_from_test, same_bytes, same_value, found_at, short_name, Layout, Today, Early, ReplayRefusal, layout_line, with_tenants, IsPartOf, layout_lines, lone_head_lines, front_by, HasPart, IsReplayOf, RefusesReplayOf, alone_lines, head_by, layout_of, longest_record, seen_lines}
+use Rattle.std.proofs.lemmas.List.{length-take}
+use Rattle.cops_types.specs.HeadLines.{tenant_in_to}
+use Rattle.cops_types.proofs.Elements.{Every-map, Every-weaker}
+use Rattle.cops_types.proofs.HeadLemmas.{tenant_in_to-finds}
 use Rattle.cops_model.specs.MainTheorem.{with_tenant_alone}
-use Rattle.cops_script.proofs.ApartTenants.{found_at, short_name}
-use Rattle.cops_replay.specs.declared.layouts.Layout.{Layout}
-use Rattle.cops_replay.specs.declared.layouts.Layout.TheVariants.{Today, Early}
-use Rattle.cops_replay.specs.declared.refusals.ReplayRefusal.{ReplayRefusal}
-use Rattle.cops_replay.specs.AuditText.{layout_line}
-use Rattle.cops_replay.specs.OpenAudits.{with_tenants}
-use Rattle.cops_replay.specs.OwnParts.{IsPartOf, layout_lines, lone_head_lines}
-use Rattle.cops_replay.specs.FileHeads.{front_by}
-use Rattle.cops_replay.specs.ReplayText.{HasPart, IsReplayOf, RefusesReplayOf, alone_lines, head_by, layout_of, longest_record, seen_lines}
 use Rattle.cops_replay.proofs.AuditHeads.{follows_by, head_holds, last_in, last_small, read_once, read_whole, reading_by}
 use Rattle.cops_replay.proofs.HeadsBack.{IsFit, IsOfHead, StandsIn, cluster_lacks, follows_stands, lines_of-lack, lines_of-lines, lines_of-more, tenant_lacks, tenant_written, written_tenant}
 use Rattle.cops_replay.proofs.OldFronts.{FollowsTo}
@@ -115,13 +95,9 @@ take_twice n xs = take_all n (take n xs) (omega (arith, length-take n xs))
 
 module _ (name : List ℕ) where
   seen_lack : (lines : List (List ℕ)) → AllByRecursion (Lacks newline) lines → AllByRecursion (Lacks newline) (seen_lines name lines)
-  seen_lack [] all = tt
-  seen_lack (line ∷ lines) all = by_own (bytes_eq (first_word line) name) (seen_lack lines all.1)
-    where
-      by_own : (own : Bool) → AllByRecursion (Lacks newline) (seen_lines name lines) →
-          AllByRecursion (Lacks newline) (map (cut_line longest_record) (cond own (line ∷ alone_lines name lines) (alone_lines name lines)))
-      by_own true rest = (lacks_take newline (longest_record + 1) line all.0, rest)
-      by_own false rest = rest
+  seen_lack lines all =
+      Every-map (Lacks newline) (cut_line longest_record) (alone_lines name lines)
+      (Every-weaker (Lacks newline) (λ line. Lacks newline (cut_line longest_record line)) (alone_lines name lines) (λ line at. lacks_take newline (longest_record + 1) line) (Every-filter (Lacks newline) (λ line. bytes_eq (first_word line) name) lines all))
 
   -- the tenant's lines among these are all of them
   seen_twice : length name ≤ 16 → (lines : List (List ℕ)) → seen_lines name (seen_lines name lines) ≡ seen_lines name lines

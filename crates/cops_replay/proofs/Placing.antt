@@ -1,15 +1,7 @@
 -- The text of a record in parts, and texts of records that are put at a place.
-use Rattle.std.proofs.Common.{◌≡◌, ℕ, not, List, [], ◌∷◌, ◌++◌, refl, sym, ap, ◌∙◌, append_assoc, arith}
-use Rattle.std.specs.Prelude.{IsTrue, codes, decimal}
-use Rattle.std.proofs.lemmas.Bool.Decides.{nat_tests}
-use Rattle.cops_types.specs.Words.{no_words, space, spaced}
-use Rattle.cops_model.specs.declared.calls.NodeCall.{NodeCall}
+use Rattle.std.proofs.Common.{◌≡◌, ℕ, not, List, [], ◌∷◌, ◌++◌, refl, sym, ap, ◌∙◌, append_assoc, arith, IsTrue, codes, decimal}
+use Rattle.cops_replay.proofs.Names.{nat_tests, no_words, space, spaced, NodeCall, NodeReply, Found, NodeId, Record, call_words, reply_words, node_text, record_line}
 use Rattle.cops_model.specs.declared.calls.NodeCall.TheVariants.{Get}
-use Rattle.cops_model.specs.declared.calls.NodeReply.{NodeReply}
-use Rattle.cops_model.specs.declared.calls.NodeReply.TheVariants.{Found}
-use Rattle.cops_model.specs.declared.calls.NodeId.{NodeId}
-use Rattle.cops_replay.specs.declared.Record.{Record}
-use Rattle.cops_replay.specs.RecordText.{call_words, reply_words, node_text, record_line}
 use Rattle.cops_replay.specs.Room.{front_text}
 
 abbrev pub HasWords : List (List ℕ) → Type 0

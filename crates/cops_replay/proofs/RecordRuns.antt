@@ -1,30 +1,11 @@
 -- What a replay finds over a tenant's lines, as they are cut.
-use Rattle.std.proofs.Common.{◌≡◌, ℕ, ◌+◌, ◌<◌, ◌≤◌, Bool, true, false, ◌&&◌, ◌||◌, cond, List, [], ◌∷◌, ◌++◌, length, map, take, inl, inr, ◌⊎◌, refl, sym, subst, ap, ◌∙◌, arith, length-take}
-use Rattle.std.specs.Prelude.{Option, Some, None, nat_le, codes, decimal}
-use Rattle.std.specs.List.{list_any}
-use Rattle.std.specs.Option.{is_none, option_map}
-use Rattle.std.specs.Str.{bytes_eq}
-use Rattle.std.proofs.lemmas.Bool.Decides.{nat_tests}
-use Rattle.std.proofs.lemmas.List.{take_all}
-use Rattle.cops_types.specs.Counts.{counted}
-use Rattle.cops_script.specs.LineRules.{Run}
-use Rattle.cops_types.specs.Lines.{cut_line}
-use Rattle.cops_types.specs.TenantConfig.{TenantConfig}
-use Rattle.cops_types.specs.Words.{first_word, newline}
-use Rattle.cops_types.proofs.Elements.{or_right}
-use Rattle.cops_model.specs.SoloNode.{SoloNode}
+use Rattle.std.proofs.Common.{◌≡◌, ℕ, ◌+◌, ◌<◌, ◌≤◌, Bool, true, false, ◌&&◌, ◌||◌, cond, List, [], ◌∷◌, ◌++◌, length, map, take, inl, inr, ◌⊎◌, refl, sym, subst, ap, ◌∙◌, arith, length-take, Option, Some, None, nat_le, codes, decimal}
+use Rattle.cops_replay.proofs.Names.{list_any, is_none, bytes_eq, nat_tests, take_all, counted, Run, cut_line, TenantConfig, first_word, newline, or_right, SoloNode, Layout, Today, Early, Record, Replayed, FirstDifference, old_record_in, record_by, nodes_after, AreLoneNodes, IsReplayedLine, Standing, found_of, FindsBy, alone_lines, is_great_in, longest_record, replayed_text, told_number, told_of}
+use Rattle.std.specs.Option.{option_map}
 use Rattle.cops_script.proofs.CutLemmas.{same_first_at}
-use Rattle.cops_replay.specs.declared.layouts.Layout.{Layout}
-use Rattle.cops_replay.specs.declared.layouts.Layout.TheVariants.{Today, Early}
-use Rattle.cops_replay.specs.declared.Record.{Record}
-use Rattle.cops_replay.specs.declared.Replayed.{Replayed}
-use Rattle.cops_replay.specs.declared.Replayed.TheVariants.{FirstDifference}
-use Rattle.cops_replay.specs.OldRecords.{is_old_record, old_record_in, versions_in}
-use Rattle.cops_replay.specs.RecordLines.{record_by}
-use Rattle.cops_replay.specs.Replaying.{nodes_after}
-use Rattle.cops_replay.specs.Replayings.{AreLoneNodes, Differs, IsReplayedLine, Passes, Standing, found_of}
+use Rattle.cops_replay.specs.VersionLayouts.{is_old_record, versions_in}
+use Rattle.cops_replay.specs.Replayings.{Differs, Passes}
 use Rattle.cops_replay.specs.ReplayRules.{ReplaysOwn, replay_lines}
-use Rattle.cops_replay.specs.ReplayText.{FindsBy, alone_lines, is_great_in, longest_record, replayed_text, told_number, told_of}
 use Rattle.cops_replay.proofs.AuditHeads.{by_test}
 
 -- ---- lines, as they are cut
@@ -99,18 +80,15 @@ tells_line layout config line lines old mid new h p = record {
 
 module _ (name : List ℕ) (layout : Layout) where
   -- a line of the tenant is one of its lines, and another is not
-  own_first : (line : List ℕ) (lines : List (List ℕ)) → bytes_eq (first_word line) name ≡ true → alone_lines name (line ∷ lines) ≡ line ∷ alone_lines name lines
-  own_first line lines e = ap (λ b. cond b (line ∷ alone_lines name lines) (alone_lines name lines)) e
-
-  others_first : (line : List ℕ) (lines : List (List ℕ)) → bytes_eq (first_word line) name ≡ false → alone_lines name (line ∷ lines) ≡ alone_lines name lines
-  others_first line lines e = ap (λ b. cond b (line ∷ alone_lines name lines) (alone_lines name lines)) e
+  first_is : (line : List ℕ) (lines : List (List ℕ)) (own : Bool) → bytes_eq (first_word line) name ≡ own → alone_lines name (line ∷ lines) ≡ cond own (line ∷ alone_lines name lines) (alone_lines name lines)
+  first_is line lines own e = ap (λ b. cond b (line ∷ alone_lines name lines) (alone_lines name lines)) e
 
   -- a clock is too great in a line of the tenant
   pub any_great : (passed : List (List ℕ)) (line : List ℕ) (rest : List (List ℕ)) → bytes_eq (first_word line) name ≡ true → is_great_in layout line ≡ true → list_any (is_great_in layout) (alone_lines name (passed ++ line ∷ rest)) ≡ true
-  any_great [] line rest own great = ap (list_any (is_great_in layout)) (own_first line rest own) ∙ ap (λ b. b || list_any (is_great_in layout) (alone_lines name rest)) great
+  any_great [] line rest own great = ap (list_any (is_great_in layout)) (first_is line rest true own) ∙ ap (λ b. b || list_any (is_great_in layout) (alone_lines name rest)) great
   any_great (first ∷ passed) line rest own great = by_test (bytes_eq (first_word first) name)
-      (λ is. ap (list_any (is_great_in layout)) (own_first first (passed ++ line ∷ rest) is) ∙ or_right (is_great_in layout first) (list_any (is_great_in layout) (alone_lines name (passed ++ line ∷ rest))) (any_great passed line rest own great))
-      (λ isnt. ap (list_any (is_great_in layout)) (others_first first (passed ++ line ∷ rest) isnt) ∙ any_great passed line rest own great)
+      (λ is. ap (list_any (is_great_in layout)) (first_is first (passed ++ line ∷ rest) true is) ∙ or_right (is_great_in layout first) (list_any (is_great_in layout) (alone_lines name (passed ++ line ∷ rest))) (any_great passed line rest own great))
+      (λ isnt. ap (list_any (is_great_in layout)) (first_is first (passed ++ line ∷ rest) false isnt) ∙ any_great passed line rest own great)
 
   -- what a run over the lines comes to
   pub record Ran (config : TenantConfig) (old : Standing) (lines : List (List ℕ)) (text : List ℕ) (new : Standing) : Type 0 where
@@ -127,16 +105,16 @@ module _ (name : List ℕ) (layout : Layout) where
       record {
         layout_is = rest.layout_is;
         silent = rest.silent;
-        small = ap (list_any (is_great_in layout)) (own_first line lines e) ∙ ap (λ b. b || list_any (is_great_in layout) (alone_lines name lines)) fits ∙ rest.small;
-        tells = subst (λ ls. Tells layout config old ls new) (sym (own_first line lines e)) (tells_line layout config line (alone_lines name lines) old mid new h.1 rest.tells);
+        small = ap (list_any (is_great_in layout)) (first_is line lines true e) ∙ ap (λ b. b || list_any (is_great_in layout) (alone_lines name lines)) fits ∙ rest.small;
+        tells = subst (λ ls. Tells layout config old ls new) (sym (first_is line lines true e)) (tells_line layout config line (alone_lines name lines) old mid new h.1 rest.tells);
       }
   one_more config line lines old mid false text new e at h later =
       let rest = later (ap (λ (s : Standing). s.layout) h ∙ at) in
       record {
         layout_is = rest.layout_is;
         silent = rest.silent;
-        small = ap (list_any (is_great_in layout)) (others_first line lines e) ∙ rest.small;
-        tells = subst (λ ls. Tells layout config old ls new) (sym (others_first line lines e)) (subst (λ s. Tells layout config s (alone_lines name lines) new) h rest.tells);
+        small = ap (list_any (is_great_in layout)) (first_is line lines false e) ∙ rest.small;
+        tells = subst (λ ls. Tells layout config old ls new) (sym (first_is line lines false e)) (subst (λ s. Tells layout config s (alone_lines name lines) new) h rest.tells);
       }
 
   pub running : (config : TenantConfig) → length name ≤ 16 → (lines : List (List ℕ)) (old : Standing) (text : List ℕ) (new : Standing) → old.layout ≡ layout → Run (replay_lines name) old (map (cut_line longest_record) lines) text new → Ran config old lines text new

@@ -1,41 +1,16 @@
 -- What a replay comes to over a whole file.
-use Rattle.std.proofs.Common.{◌≡◌, ℕ, Bool, true, false, ◌||◌, ◌≤◌, List, [], ◌∷◌, ◌++◌, length, inl, inr, refl, sym, subst, ap, ◌∙◌, append-nil, arith}
-use Rattle.std.specs.Prelude.{Option, Some, None, IfSome, slice_get, ⊤}
-use Rattle.std.specs.List.{list_any}
-use Rattle.std.specs.Str.{bytes_eq}
-use Rattle.std.specs.Io.KnownBytes.{Appends, Keeps}
-use Rattle.cops_types.specs.declared.configs.Config.{Config}
-use Rattle.cops_types.specs.declared.configs.Tenant.{Tenant}
-use Rattle.cops_types.specs.Head.{AtStart, Whole}
-use Rattle.cops_types.specs.Lines.{lines_of, cut_line}
-use Rattle.cops_types.specs.Sink.{AppendsFront}
-use Rattle.cops_types.specs.Slots.{slot_of_name}
-use Rattle.cops_types.specs.TenantConfig.{tenant_config}
-use Rattle.cops_types.specs.Words.{first_word}
-use Rattle.cops_types.proofs.Elements.{or_right}
-use Rattle.cops_script.specs.declared.line_runs.fault.RunFault.{RunFault}
+use Rattle.std.proofs.Common.{◌≡◌, ℕ, true, false, ◌||◌, ◌≤◌, List, [], ◌∷◌, ◌++◌, length, inl, inr, refl, sym, subst, ap, ◌∙◌, append-nil, arith, Option, Some, None, IfSome, slice_get}
+use Rattle.std.specs.Prelude.{⊤}
+use Rattle.cops_replay.proofs.Names.{list_any, bytes_eq, Appends, Keeps, Config, Tenant, AtStart, Whole, lines_of, cut_line, AppendsFront, slot_of_name, tenant_config, first_word, or_right, both_fail, RunFault, AnswersAll, IfRunRefused, StopsEarly, AppendsFront-nil, AuditMachine, Layout, Early, ReplayRefusal, Replayed, IsAtHead, audit_rules, fresh_nodes, Standing, found_of, FindsBy, IsRefusedBy, IsReplayBy, IsReplayOf, RefusesReplayOf, alone_lines, head_by, is_great_in, longest_record, starts_great_in}
 use Rattle.cops_script.specs.declared.line_runs.fault.RunFault.TheVariants as fault
-use Rattle.cops_script.specs.LineRuns.{AnswersAll, IfRunRefused, StopsEarly}
-use Rattle.cops_script.proofs.KnownLemmas.{AppendsFront-nil}
-use Rattle.cops_replay.specs.declared.audit_machine.AuditMachine.{AuditMachine}
-use Rattle.cops_replay.specs.declared.layouts.Layout.{Layout}
-use Rattle.cops_replay.specs.declared.layouts.Layout.TheVariants.{Early}
-use Rattle.cops_replay.specs.declared.refusals.ReplayRefusal.{ReplayRefusal}
 use Rattle.cops_replay.specs.declared.refusals.ReplayRefusal.TheVariants.{BadConfig, UnknownTenant, ClockTooGreat}
-use Rattle.cops_replay.specs.declared.replay_machine.ReplaysOf.{ReplaysOf}
-use Rattle.cops_replay.specs.declared.Replayed.{Replayed}
-use Rattle.cops_replay.specs.AuditFiles.{IsAtHead, audit_rules}
-use Rattle.cops_replay.specs.Replaying.{fresh_nodes}
-use Rattle.cops_replay.specs.Replayings.{Standing, found_of}
+use Rattle.cops_replay.specs.declared.replay_runs.ReplaysOf.{ReplaysOf}
 use Rattle.cops_replay.specs.ReplayRules.{IsNotBegun, RefusesOwn, replay_rules}
-use Rattle.cops_replay.specs.ReplayText.{FindsBy, IsRefusedBy, IsReplayBy, IsReplayOf, RefusesReplayOf, ReplaysFront, alone_lines, head_by, is_great_in, longest_record, starts_great_in}
+use Rattle.cops_replay.specs.ReplayText.{ReplaysFront}
 use Rattle.cops_replay.proofs.AuditHeads.{short_in}
 use Rattle.cops_replay.proofs.EarlySteps.{by_its_rules}
 use Rattle.cops_replay.proofs.FileRuns as runs
 use Rattle.cops_replay.proofs.RecordRuns.{TellsAs, any_great, great_cut, running, same_own}
-
-or_false : (a b : Bool) → a ≡ false → b ≡ false → a || b ≡ false
-or_false a b e f = ap (λ x. x || b) e ∙ f
 
 module _ (body : ReplaysOf) where
   -- the tenant's lines after a whole head
@@ -94,7 +69,7 @@ module _ (body : ReplaysOf) where
       let f = found_in bytes [] text e.state p in
       subst (λ (l : Layout). IsReplayBy l body.name (lines_of bytes) (text ++ last)) (sym p.layout_is) (record {
         audit = record { config = p.config; records = p.records; slot = f.slot; tenant = f.tenant; head = p.head ∙ ap (Whole p.config) (append-nil p.records); there = f.there; tenant_is = f.tenant_is };
-        fits = or_false (starts_great_in p.layout f.tenant) (list_any (is_great_in p.layout) (alone_lines body.name p.records)) f.starts f.small;
+        fits = both_fail (starts_great_in p.layout f.tenant) (list_any (is_great_in p.layout) (alone_lines body.name p.records)) f.starts f.small;
         found = f.found;
         finds = f.finds;
         text_is = ap (λ t. t ++ last) f.silent ∙ e.ended.0 ∙ f.told;

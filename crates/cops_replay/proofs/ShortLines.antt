@@ -1,45 +1,25 @@
 -- No line in the audit of a script is too long.
-use Rattle.std.proofs.Common.{◌≡◌, ℕ, ◌+◌, ◌≤◌, List, [], ◌∷◌, length, map, sym, subst, arith}
-use Rattle.std.specs.Prelude.{IsTrue, Some, nat_le, slice_get, slice_index_or, Option}
-use Rattle.std.specs.List.{AllByRecursion}
-use Rattle.std.proofs.lemmas.Bool.Decides.{nat_tests}
-use Rattle.cops_types.specs.declared.configs.Config.{Config}
-use Rattle.cops_types.specs.declared.configs.Tenant.{Tenant}
-use Rattle.cops_types.specs.Head.{Whole, head_of}
+use Rattle.std.proofs.Common.{◌≡◌, ℕ, ◌+◌, ◌≤◌, List, [], ◌∷◌, length, map, sym, subst, arith, IsTrue, Some, nat_le, slice_get, slice_index_or, Option}
+use Rattle.cops_replay.proofs.Names.{AllByRecursion, nat_tests, Config, Tenant, Whole, head_of, TenantConfig, tenant_config, Every-append, begun_with, open_at, AuditEntry, NodeId, id_of, SoloNode, said_to, life_left, setup_left, Record, record_of, records_from, left_config, left_nodes, open_slots, is_record, record_line, HasLine, longest_record, AreFormed, HaveLines, his_records}
 use Rattle.cops_types.specs.Key.{is_name}
-use Rattle.cops_types.specs.TenantConfig.{TenantConfig, tenant_config}
-use Rattle.cops_types.proofs.Elements.{Every-append}
-use Rattle.cops_types.specs.OpenSlots.{begun_with, open_at}
-use Rattle.cops_model.specs.declared.calls.AuditEntry.{AuditEntry}
-use Rattle.cops_model.specs.declared.calls.NodeId.{NodeId}
-use Rattle.cops_node.specs.Clusters.{id_of}
-use Rattle.cops_model.specs.SoloNode.{SoloNode}
-use Rattle.cops_model.specs.Events.{config_at, own}
-use Rattle.cops_model.specs.Events.{cluster_of}
+use Rattle.cops_model.specs.Events.{cluster_of, config_at, own}
 use Rattle.cops_script.specs.Lives.{of_lives, with_all_lives, Lives, first_lives, lives_after, lives_past}
 use Rattle.cops_model.specs.ListLimits.{HasFew, HasFewInAudit}
 use Rattle.cops_causal.proofs.AuditLists.{audits_few}
 use Rattle.cops_causal.proofs.Attempts.{Every-front}
-use Rattle.cops_script.specs.Script.{events_in, said_by_lines, said_to}
-use Rattle.cops_script.specs.ScriptWorlds.{life_left, setup_left}
+use Rattle.cops_script.specs.Script.{events_in, said_by_lines}
 use Rattle.cops_script.proofs.WholeHeads.{few_deps, shards_of}
 use Rattle.cops_script.proofs.ApartTenants.{name_of}
 use Rattle.cops_script.specs.Said.{said_in, tenants_after, tenants_past}
 use Rattle.cops_script.proofs.Numbered.{AreNumbered, AreOf, next_numbered, numbered_first, of_all_lives}
 use Rattle.cops_script.proofs.SaidLines.{said_in-placed}
 use Rattle.cops_script.proofs.TenantConfigs.{quota_at}
-use Rattle.cops_replay.specs.declared.Record.{Record}
-use Rattle.cops_replay.specs.AuditText.{record_of, records_from}
-use Rattle.cops_replay.specs.OpenAudits.{left_config, left_nodes, open_slots}
-use Rattle.cops_replay.specs.RecordText.{is_record, record_line}
-use Rattle.cops_replay.specs.ReplayText.{HasLine, longest_record}
-use Rattle.cops_replay.specs.WrittenAudits.{AreFormed, HaveLines, his_records}
 use Rattle.cops_replay.proofs.AuditLines.{head_known}
 use Rattle.cops_replay.proofs.HeadsBack.{written_head}
 use Rattle.cops_replay.proofs.LineLengths.{line_short}
 use Rattle.cops_replay.proofs.OpenHeads.{open_head}
 use Rattle.cops_replay.proofs.OpenLists.{open_there}
-use Rattle.cops_replay.proofs.WrittenForms.{AllFormed}
+use Rattle.cops_replay.proofs.AuditTexts.{AllFormed}
 
 to_test : (n m : ℕ) → n ≤ m → IsTrue (nat_le n m)
 to_test n m h = grind (arith, nat_tests)

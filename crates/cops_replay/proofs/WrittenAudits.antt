@@ -1,30 +1,10 @@
 -- A replay of the lines of records finds what a replay of the records does. So a replay of a written audit says that all is the same.
-use Rattle.std.proofs.Common.{◌≡◌, ℕ, ◌+◌, List, [], ◌∷◌, map, ◌⊎◌, inl, inr, sym, subst, ap, ◌∙◌, length, refl, arith}
-use Rattle.std.specs.Prelude.{IsTrue, if◌then◌else◌, Some, None, slice_get}
+use Rattle.std.proofs.Common.{◌≡◌, ℕ, ◌+◌, List, [], ◌∷◌, map, ◌⊎◌, inl, inr, sym, subst, ap, ◌∙◌, length, refl, arith, IsTrue, if◌then◌else◌, Some, None, slice_get}
 use Rattle.std.specs.Option.{option_map}
-use Rattle.std.specs.List.{AllByRecursion}
-use Rattle.std.proofs.lemmas.Bool.Decides.{nat_tests}
+use Rattle.cops_replay.proofs.Names.{AllByRecursion, nat_tests, lines_of, TenantConfig, tenant_config, Config, Tenant, HeadReading, Whole, BadAt, head_of, same_value, SoloNode, Written, Record, Replayed, FirstDifference, Same, records_text, ReplaysSame, audit_text, tenants_text, left_config, left_nodes, record_in, is_record, record_line, Agrees, Finds, FindsFrom, fresh_nodes, nodes_after, HasLine, FindsBy, IsReplayBy, IsReplayOf, alone_lines, replayed_text, Today, ReplaysSameFor, audit_after, audit_out, AreFormed, AreFormedFor, HaveLines, SaysSame, SaysSameFor, his_records}
 use Rattle.cops_types.specs.Key.{is_name}
-use Rattle.cops_types.specs.Lines.{lines_of}
-use Rattle.cops_types.specs.TenantConfig.{TenantConfig, tenant_config}
-use Rattle.cops_types.specs.declared.configs.Config.{Config}
-use Rattle.cops_types.specs.declared.configs.Tenant.{Tenant}
-use Rattle.cops_types.specs.Head.{HeadReading, Whole, BadAt, head_of}
-use Rattle.cops_model.specs.SoloNode.{SoloNode}
-use Rattle.cops_script.specs.Script.{Written}
 use Rattle.cops_script.proofs.ApartTenants.{name_of}
-use Rattle.cops_replay.specs.declared.Record.{Record}
-use Rattle.cops_replay.specs.declared.Replayed.{Replayed}
-use Rattle.cops_replay.specs.declared.Replayed.TheVariants.{FirstDifference, Same}
-use Rattle.cops_replay.specs.AuditText.{records_text, ReplaysSame, audit_text, tenants_text}
-use Rattle.cops_replay.specs.RecordLines.{record_in}
-use Rattle.cops_replay.specs.RecordText.{is_record, record_line}
-use Rattle.cops_replay.specs.Replaying.{Agrees, Finds, FindsFrom, fresh_nodes, nodes_after}
-use Rattle.cops_replay.specs.ReplayText.{FindsIn, HasLine, told_in, FindsBy, IsReplayBy, IsReplayOf, alone_lines, replayed_text}
-use Rattle.cops_replay.specs.declared.layouts.Layout.TheVariants.{Today}
-use Rattle.cops_replay.specs.AuditRuns.{ReplaysSameFor, audit_after, audit_out}
-use Rattle.cops_replay.specs.OpenAudits.{left_config, left_nodes}
-use Rattle.cops_replay.specs.WrittenAudits.{AreFormed, AreFormedFor, HaveLines, SaysSame, SaysSameFor, his_records}
+use Rattle.cops_replay.specs.ReplayText.{FindsIn, told_in}
 use Rattle.cops_replay.proofs.LinesBack.{spelled_back, text_lines}
 use Rattle.cops_replay.proofs.AuditLines.{head_known, lines_his, named_at}
 use Rattle.cops_replay.proofs.EarlyRecords.{none_great_today}
@@ -38,9 +18,6 @@ told_back tenant told named line =
     ap (λ b. if b then option_map (λ (read : List ℕ × Record). read.1) (record_in (record_line tenant told)) else None) line.short
     ∙ ap (option_map (λ (read : List ℕ × Record). read.1)) (spelled_back tenant told named line.formed)
 
-same_told : (a b : Record) → Some a ≡ Some b → a ≡ b
-same_told a b h = cc
-
 pub found_in : (config : TenantConfig) (tenant : List ℕ) (passed : ℕ) (nodes : List SoloNode) (records : List Record) (found : Replayed) → IsTrue (is_name tenant) → AllByRecursion (HasLine tenant) records
     → FindsFrom config passed nodes records found → FindsIn config passed nodes (map (record_line tenant) records) found
 found_in config tenant passed nodes [] found named all finds = finds
@@ -51,7 +28,7 @@ found_in config tenant passed nodes (told ∷ records) found named all finds = b
         → FindsIn config passed nodes (record_line tenant told ∷ map (record_line tenant) records) found
     by rest (inl goes) = inl (told, told_back tenant told named all.0, goes.0, rest goes.1)
     by rest (inr stops) = inr (
-      (λ other is agrees. stops.0 (subst (λ (t : Record). Agrees config t nodes) (same_told other told (sym is ∙ told_back tenant told named all.0)) agrees)),
+      (λ other is agrees. stops.0 (subst (λ (t : Record). Agrees config t nodes) (same_value other told (sym is ∙ told_back tenant told named all.0)) agrees)),
       stops.1,
     )
 
@@ -66,11 +43,6 @@ text_replays config tenant records found named all finds = grind (arith, nat_tes
 pub formed : (config : Config) (nodes : TenantConfig → ℕ → List SoloNode) → HaveLines config nodes → AreFormed config nodes
 formed config nodes all slot tenant e = all_formed tenant.name (his_records config nodes slot tenant) (all slot tenant e)
 
--- those of a tenant are those of its records, if a head has it
-pub his_lines : (lines rest : List (List ℕ)) (config : Config) (nodes : TenantConfig → ℕ → List SoloNode) (slot : ℕ) (tenant : Tenant) → head_of lines ≡ Whole config rest → AreFormed config nodes →
-    slice_get config.tenants slot ≡ Some tenant → alone_lines tenant.name (lines_of (tenants_text config nodes 0 config.tenants)) ≡ map (record_line tenant.name) (his_records config nodes slot tenant)
-his_lines lines rest config nodes slot tenant head formed e = lines_his config nodes slot tenant (head_known lines rest config head) formed e
-
 pub says_same : (lines rest : List (List ℕ)) (config : Config) (nodes : TenantConfig → ℕ → List SoloNode) (slot : ℕ) (tenant : Tenant) → head_of lines ≡ Whole config rest → HaveLines config nodes →
     slice_get config.tenants slot ≡ Some tenant → ReplaysSame (tenant_config config tenant) (nodes (tenant_config config tenant) slot) →
     IsReplayOf tenant.name (audit_text config nodes) (replayed_text (Same (length (his_records config nodes slot tenant))))
@@ -79,7 +51,7 @@ says_same lines rest config nodes slot tenant head all e same =
     let his = tenant_config config tenant in
     let records = his_records config nodes slot tenant in
     let text = tenants_text config nodes 0 config.tenants in
-    let own : alone_lines tenant.name (lines_of text) ≡ map (record_line tenant.name) records = his_lines lines rest config nodes slot tenant head (formed config nodes all) e in
+    let own : alone_lines tenant.name (lines_of text) ≡ map (record_line tenant.name) records = lines_his config nodes lines rest slot tenant head (formed config nodes all) e in
     subst (λ layout. IsReplayBy layout tenant.name (lines_of (audit_text config nodes)) (replayed_text (Same (length records)))) (sym (text_is_todays lines rest config text head)) (record {
       audit = record { config = config; records = lines_of text; slot = slot; tenant = tenant; head = text_reads_back lines rest config text head; there = named_at config.tenants slot tenant known.apart e; tenant_is = e };
       fits = none_great_today (alone_lines tenant.name (lines_of text));

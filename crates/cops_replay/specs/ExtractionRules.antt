@@ -6,7 +6,7 @@ use Rattle.cops_types.specs.declared.configs.Tenant.{Tenant}
 use Rattle.cops_types.specs.Slots.{slot_of_name}
 use Rattle.cops_types.specs.Words.{first_word}
 use Rattle.cops_script.specs.LineRules.{LineRules}
-use Rattle.cops_replay.specs.declared.extraction_machine.PartOf.{PartOf}
+use Rattle.cops_replay.specs.declared.extractions.PartOf.{PartOf}
 use Rattle.cops_replay.specs.declared.layouts.Layout.{Layout}
 use Rattle.cops_replay.specs.declared.refusals.PartRefusal.{PartRefusal}
 use Rattle.cops_replay.specs.declared.refusals.PartRefusal.TheVariants.{BadConfig, UnknownTenant}

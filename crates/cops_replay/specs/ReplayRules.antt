@@ -10,7 +10,7 @@ use Rattle.cops_script.specs.LineRules.{LineRules}
 use Rattle.cops_replay.specs.declared.layouts.Layout.{Layout}
 use Rattle.cops_replay.specs.declared.refusals.ReplayRefusal.{ReplayRefusal}
 use Rattle.cops_replay.specs.declared.refusals.ReplayRefusal.TheVariants.{BadConfig, UnknownTenant, ClockTooGreat}
-use Rattle.cops_replay.specs.declared.replay_machine.ReplaysOf.{ReplaysOf}
+use Rattle.cops_replay.specs.declared.replay_runs.ReplaysOf.{ReplaysOf}
 use Rattle.cops_replay.specs.AuditFiles.{AuditRules}
 use Rattle.cops_replay.specs.Replayings.{IsBeforeRecords, IsReplayedLine, Standing, found_of}
 use Rattle.cops_replay.specs.ReplayText.{is_great_in, replayed_text, starts_great_in}

@@ -25,11 +25,10 @@ use Rattle.cops_replay.specs.declared.Replayed.TheVariants.{Same, FirstDifferenc
 use Rattle.cops_replay.specs.declared.refusals.ReplayRefusal.{ReplayRefusal}
 use Rattle.cops_replay.specs.declared.refusals.ReplayRefusal.TheVariants.{BadConfig, UnknownTenant, ClockTooGreat}
 use Rattle.cops_replay.specs.AuditText.{layout_line}
-use Rattle.cops_replay.specs.OldRecords.{is_old_record, last_early_clock, old_record_in, versions_in}
+use Rattle.cops_replay.specs.VersionLayouts.{is_old_record, last_early_clock, old_record_in, versions_in, AgreesIn, nodes_after_in}
 use Rattle.cops_replay.specs.RecordLines.{record_by}
 use Rattle.cops_replay.specs.RecordText.{is_record, record_line}
 use Rattle.cops_replay.specs.Replaying.{fresh_nodes}
-use Rattle.cops_replay.specs.VersionLayouts.{AgreesIn, nodes_after_in}
 
 -- no line of a record is longer, in bytes
 abbrev pub longest_record : ℕ

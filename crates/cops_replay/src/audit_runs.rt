@@ -1,24 +1,26 @@
-//! The audit of a script, over any reader and any writer.
-ghost use Rattle.std.specs.Prelude.{◌≡◌, ◌⊎◌, ℕ, List, IfErr, IfSome, IsErrOf, OnErr, OnOk};
+//! The audit of a script, and one tenant's part of it, over any reader and any writer.
+ghost use Rattle.std.specs.Prelude.{◌≡◌, ◌⊎◌, ℕ, List, IfErr, IfSome, IsErrOf, OnErr, OnOk, [], ◌∷◌, None, Some};
 ghost use Rattle.std.specs.Io.KnownBytes.{Appends, IsAtEnd, Keeps};
 ghost use Rattle.cops_types.specs.declared.faults.Fault.TheVariants.{WriteFault};
 ghost use Rattle.cops_types.specs.Counts.{HasRisen, HasRisenBy};
 ghost use Rattle.cops_types.specs.Head.{BadAt, head_of};
-ghost use Rattle.cops_script.specs.LineRuns.{IfRunRefused};
 ghost use Rattle.cops_types.specs.Lines.{lines_of};
 ghost use Rattle.cops_types.specs.RequestErrors.{IfRefusal, OnRefusal};
 ghost use Rattle.cops_types.specs.Sink.{AppendsFront, sink_failures, sink_writer};
 ghost use Rattle.cops_types.specs.Source.{source_failures, source_reader, source_reads};
 ghost use Rattle.cops_types.specs.TenantConfig.{TenantConfig};
+ghost use Rattle.cops_types.specs.OpenSlots.{open_at};
 ghost use Rattle.cops_node.specs.Clusters.{nodes_of, shape_of};
+ghost use Rattle.cops_script.specs.LineRuns.{IfRunRefused};
 ghost use Rattle.cops_script.specs.Script.{Written};
 ghost use Rattle.cops_replay.specs.AuditText.{HasShape, ReplaysSame, audit_text};
-ghost use Rattle.cops_replay.specs.AuditRuns.{HasItsTenants, IsOfWriting, ReplaysSameFor, WritesAudit, WritesAuditFront, audit_out, open_config, open_nodes};
-ghost use Rattle.cops_replay.specs.WrittenAudits.{AreFormed, AreFormedFor, SaysSameFor};
+ghost use Rattle.cops_replay.specs.AuditRuns.{HasItsTenants, IsOfWriting, ReplaysSameFor, WritesAudit, WritesAuditFront, audit_out, open_config, open_nodes, AreFormed, AreFormedFor, SaysSameFor};
+ghost use Rattle.cops_replay.specs.OwnParts.{IsOwnAuditOf, IsSlotFormed, LacksTenant, RefusesOwnAuditOf, SaysSameOwn, WritesOwnAudit, WritesOwnAuditFront, WritesSlot, WritesSlotFront, as_part_fault, slot_audit};
 
-use crate::open_audits::write_open_audit;
+use crate::audits::{write_audit_at, write_open_audit};
+use crate::refusals::PartRefusal;
 use cops_script::{BadConfig, RunFault};
-use cops_types::{RequestError, Sink, Source};
+use cops_types::{RequestError, Sink, Source, Tenant};
 use cops_world::{World, script_world};
 use std::alloc::Global;
 use std::io::{Read, Write};
@@ -130,6 +132,139 @@ pub fn audit_text<R: Read, O: Write>(
         Err(fault) => return Err(fault),
     };
     let result = write_world(alloc, sink, &world);
+    // The process ends soon, and frees its memory at once.
+    mem::forget(world);
+    result
+}
+
+/// Returns the fault of a script whose head is refused.
+fn part_fault(fault: RunFault<BadConfig>) -> RunFault<PartRefusal>
+    ensures same { result ≡ as_part_fault fault }
+    ensures read { result ≡ RunFault.ReadFault → fault ≡ RunFault.ReadFault }
+    ensures write { result ≡ RunFault.WriteFault → fault ≡ RunFault.WriteFault }
+{
+    match fault {
+        RunFault::Refused(bad) => RunFault::Refused(PartRefusal::BadConfig(bad)),
+        RunFault::OutOfMemory => RunFault::OutOfMemory,
+        RunFault::ReadFault => RunFault::ReadFault,
+        RunFault::WriteFault => RunFault::WriteFault,
+    }
+}
+
+/// Writes the audit of a world's nodes with the tenant of one slot alone.
+fn write_slot<O: Write>(
+    alloc: Global,
+    sink: &mut Sink<O>,
+    world: &World,
+    slot: u64,
+    tenant: Tenant,
+) -> Result<(), RequestError>
+    requires tenants { HasItsTenants world.now }
+    requires there { open_at slot world.now.setup.tenants ≡ Some tenant }
+    ensures ok { OnOk result (Appends (O.contents (sink_writer sink.old))
+        (O.contents (sink_writer sink.new)) (slot_audit world.now slot tenant)) }
+    ensures front { AppendsFront (O.contents (sink_writer sink.old))
+        (O.contents (sink_writer sink.new)) (slot_audit world.now slot tenant) }
+    ensures replays { (config : TenantConfig) (slot : ℕ) →
+        HasShape config (shape_of world.now.setup.head) →
+        ReplaysSame config (nodes_of config slot world.now.nodes) }
+    ensures formed { OnOk result (IsSlotFormed world.now slot tenant) }
+    ensures fault { IfRefusal result (λ fault. fault ≡ WriteFault) }
+    ensures write_fault { OnRefusal result
+        (HasRisen (sink_failures sink.old) (sink_failures sink.new)) }
+{
+    let nodes = world.nodes();
+    let tenants = [tenant];
+    let slots = [slot];
+    write_audit_at(alloc, sink, world.config(), &tenants, &slots, nodes)
+}
+
+/// Writes the audit of the open tenant of this name, if there is one.
+fn write_own<O: Write>(
+    alloc: Global,
+    sink: &mut Sink<O>,
+    world: &World,
+    name: &[u8],
+) -> Result<(), RunFault<PartRefusal>>
+    requires { HasItsTenants world.now }
+    ensures ok { OnOk result (WritesSlot world.now name.now (O.contents (sink_writer sink.old))
+        (O.contents (sink_writer sink.new))) }
+    ensures front { OnErr result (WritesSlotFront world.now name.now
+        (O.contents (sink_writer sink.old)) (O.contents (sink_writer sink.new))) }
+    ensures replays { OnOk result ((config : TenantConfig) (slot : ℕ) →
+        HasShape config (shape_of world.now.setup.head) →
+        ReplaysSame config (nodes_of config slot world.now.nodes)) }
+    ensures refused { IfErr result (λ fault. IfRunRefused fault (LacksTenant world.now name.now)) }
+    ensures unwritten { IfErr result (λ fault. IfRunRefused fault
+        (λ refusal. Keeps (O.contents (sink_writer sink.old))
+        (O.contents (sink_writer sink.new)))) }
+    ensures read_fault { IsErrOf result RunFault.ReadFault → ⊥ }
+    ensures write_fault { IsErrOf result RunFault.WriteFault →
+        HasRisen (sink_failures sink.old) (sink_failures sink.new) }
+{
+    let tenants = world.tenants();
+    let Some(slot) = tenants.slot_of_name(name) else {
+        return Err(RunFault::Refused(PartRefusal::UnknownTenant));
+    };
+    let tenant = tenants.tenant_in(slot);
+    match write_slot(alloc, sink, world, slot, *tenant) {
+        Ok(()) => Ok(()),
+        Err(RequestError::Refused(_)) => Err(RunFault::WriteFault),
+        Err(RequestError::OutOfMemory) => Err(RunFault::OutOfMemory),
+    }
+}
+
+/// Writes one tenant's part of the audit of a script: the line of the layout, the sizes, the line of
+/// the open tenant of this name, and a line for each of its calls, by node. No other tenant's name,
+/// token or line is in it.
+///
+/// Reads the script to its end as `run_script` does and executes it. It holds the world, and no copy
+/// of the text. If memory runs out for a line of the script, also for another tenant's, it ends and
+/// nothing is written.
+///
+/// `own_audits_are_parts` says that `extract_text` cuts the same bytes out of what `audit_text`
+/// writes.
+///
+/// Call it last in a program: the memory of the world stays allocated until the process ends.
+pub fn audit_part_text<R: Read, O: Write>(
+    alloc: Global,
+    source: &mut Source<R>,
+    sink: &mut Sink<O>,
+    tenant: &[u8],
+) -> Result<(), RunFault<PartRefusal>>
+    // All is read, and the part is written, or a prefix of it.
+    ensures end { OnOk result (IsAtEnd (R.remaining (source_reader source.new))) }
+    ensures ok { OnOk result (IfSome (R.remaining (source_reader source.old)) (λ bytes.
+        WritesOwnAudit tenant.now bytes (O.contents (sink_writer sink.old))
+        (O.contents (sink_writer sink.new)))) }
+    ensures err { OnErr result (IfSome (R.remaining (source_reader source.old)) (λ bytes.
+        WritesOwnAuditFront tenant.now bytes (O.contents (sink_writer sink.old))
+        (O.contents (sink_writer sink.new)))) }
+
+    // A replay of it for the tenant finds all its records the same.
+    ensures says_same { OnOk result (IfSome (R.remaining (source_reader source.old)) (λ bytes.
+        (part : List ℕ) → IsOwnAuditOf tenant.now bytes part →
+        SaysSameOwn (head_of (lines_of bytes)) tenant.now part)) }
+
+    // A bad head is refused, and so is a name that no tenant has at the end. Nothing is written then.
+    ensures refused { IfErr result (λ fault. IfRunRefused fault (λ refusal.
+        IfSome (R.remaining (source_reader source.old))
+        (λ bytes. RefusesOwnAuditOf tenant.now bytes refusal))) }
+    ensures unwritten { IfErr result (λ fault. IfRunRefused fault (λ refusal.
+        Keeps (O.contents (sink_writer sink.old)) (O.contents (sink_writer sink.new)))) }
+
+    // The reader or the writer failed in this call, or the turns are used up.
+    ensures read_fault { IsErrOf result RunFault.ReadFault →
+        HasRisen (source_failures source.old) (source_failures source.new)
+        ⊎ HasRisenBy (source_reads source.old) (source_reads source.new) 4294967296 }
+    ensures write_fault { IsErrOf result RunFault.WriteFault →
+        HasRisen (sink_failures sink.old) (sink_failures sink.new) }
+{
+    let world = match script_world(alloc, source) {
+        Ok(world) => world,
+        Err(fault) => return Err(part_fault(fault)),
+    };
+    let result = write_own(alloc, sink, &world, tenant);
     // The process ends soon, and frees its memory at once.
     mem::forget(world);
     result

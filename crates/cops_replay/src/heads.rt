@@ -1,8 +1,7 @@
 //! The lines of an audit before its records, in their one form: tokens in lower case, with hyphens.
 ghost use Rattle.std.specs.Prelude.{◌≡◌, ◌∷◌, ◌++◌, OnOk, decimal, flat_map};
 ghost use Rattle.cops_types.specs.HeadLines.{begin_line, cluster_line};
-ghost use Rattle.cops_replay.specs.AuditText.{ended, head_text, layout_line, tenant_text};
-ghost use Rattle.cops_replay.specs.OpenAudits.{with_tenants};
+ghost use Rattle.cops_replay.specs.AuditText.{ended, head_text, layout_line, tenant_text, with_tenants};
 
 use cops_types::texts::push_number;
 use cops_types::{Config, Tenant};

@@ -1,15 +1,19 @@
-//! Calls and replies as text, written over existing bytes.
-ghost use Rattle.std.specs.Prelude.{◌≡◌, ◌≤◌, ◌+◌, ◌*◌, ◌++◌, [], length, take, IsTrue, OnOk};
+//! Calls, replies and records as text, written over existing bytes, compared there or appended to a vector.
+ghost use Rattle.std.specs.Prelude.{◌≡◌, ◌≤◌, ◌+◌, ◌*◌, ◌++◌, [], length, take, IsTrue, OnOk, ◌↔◌, IfOk, Some, replicate, OnErr};
 ghost use Rattle.cops_types.specs.Words.{spaced};
 ghost use Rattle.cops_model.specs.declared.calls.NodeCall.TheVariants.{DepCheck, Get, Put};
 ghost use Rattle.cops_model.specs.declared.calls.NodeReply.TheVariants.{Found};
-ghost use Rattle.cops_replay.specs.RecordText.{call_words, has_form, is_call, is_reply, is_wanted, reply_words, wanted_text};
+ghost use Rattle.cops_replay.specs.RecordText.{call_words, has_form, is_call, is_reply, is_wanted, reply_words, wanted_text, is_record, record_line};
 ghost use Rattle.cops_replay.specs.Room.{IsNoMoreThan, IsRoomFor, call_room, entry_room, reply_room, stored_room};
+ghost use Rattle.cops_replay.specs.RecordLines.{reply_told};
 
-use crate::put_words::{put_ack, put_entered, put_numbered, put_stored, put_value, put_versioned};
+use crate::Record;
+use crate::put_words::{
+    put_ack, put_entered, put_front, put_numbered, put_stored, put_value, put_versioned,
+};
 use cops_node::{NodeCall, NodeReply, Wanted};
 use cops_types::placed::{put_byte, put_deps, put_key, put_version, put_word};
-use cops_types::{Entry, Key, OwnedDeps, OwnedNear, OwnedValue, Version};
+use cops_types::{Entry, Fault, Key, Name, OwnedDeps, OwnedNear, OwnedValue, Version};
 use std::alloc::AllocError;
 
 /// Returns the most room that a value of this many bytes and lists of this many pairs take.
@@ -200,4 +204,102 @@ pub(crate) fn put_reply(bytes: &mut [u8], at: usize, reply: &NodeReply) -> usize
         NodeReply::Removed(count) => put_numbered(bytes, at, b"removed", *count),
         NodeReply::Refused(fault) => put_word(bytes, at, &fault.text()),
     }
+}
+
+/// Returns `true` if an audit may have the reply.
+pub(crate) fn has_form(reply: &NodeReply) -> bool
+    ensures { result ≡ has_form reply.now }
+{
+    match reply {
+        NodeReply::Refused(fault) => matches!(
+            fault,
+            Fault::VersionQuota | Fault::ByteQuota | Fault::OutboxFull | Fault::ClockFull
+        ),
+        _ => true,
+    }
+}
+
+/// Returns the most room that the text of a reply takes.
+fn room_of_text(reply: &NodeReply) -> usize
+    ensures enough { IsRoomFor (reply_room reply.now + 165) result }
+    ensures no_more { IsNoMoreThan (reply_room reply.now + 165) result }
+{
+    room_of_reply(reply).saturating_add(165)
+}
+
+/// Returns `true` if a text is exactly that of the reply, which is written over `place`.
+fn is_text_of(place: &mut [u8], reply: &NodeReply, text: &[u8]) -> bool
+    requires form { IsTrue (has_form reply.now) }
+    requires room { reply_room reply.now + 165 ≤ length place.old }
+    ensures { IsTrue result ↔ (reply_told text.now ≡ Some reply.now) }
+{
+    let end = put_reply(place, 0, reply);
+    &place[..end] == text
+}
+
+/// Returns `true` if a text is exactly that of the reply. `place` is scratch space.
+pub(crate) fn is_told(
+    place: &mut Vec<u8>,
+    reply: &NodeReply,
+    text: &[u8],
+) -> Result<bool, AllocError>
+    ensures { IfOk result (λ told. IsTrue told ↔ (reply_told text.now ≡ Some reply.now)) }
+{
+    if !has_form(reply) {
+        return Ok(false);
+    }
+    make_room(place, room_of_text(reply))?;
+    Ok(is_text_of(place.as_mut_slice(), reply, text))
+}
+
+/// Returns the most room that the line of a record takes.
+fn room_of(told: &Record) -> usize
+    ensures enough { IsRoomFor (call_room told.now.call + reply_room told.now.reply + 430) result }
+    ensures no_more { IsNoMoreThan
+        (call_room told.now.call + reply_room told.now.reply + 430) result }
+{
+    room_of_call(&told.call)
+        .saturating_add(room_of_reply(&told.reply))
+        .saturating_add(430)
+}
+
+/// Writes the line of a record.
+fn put_record(bytes: &mut [u8], at: usize, tenant: &Name, told: &Record) -> usize
+    requires formed { IsTrue (has_form told.now.reply) }
+    requires room { at + (call_room told.now.call + reply_room told.now.reply + 430)
+        ≤ length bytes.old }
+    ensures text { take result bytes.new ≡ take at bytes.old ++ record_line tenant.now told.now }
+    ensures within { result ≤ length bytes.old }
+    ensures formed { IsTrue (is_record told.now) }
+{
+    let of_call = put_front(bytes, at, tenant, told.node, told.moment);
+    let after_call = put_call(bytes, of_call, &told.call);
+    let of_reply = put_word(bytes, after_call, b" = ");
+    put_reply(bytes, of_reply, &told.reply)
+}
+
+/// Appends zeros for the room.
+fn push_zeros(out: &mut Vec<u8>, count: usize) -> Result<(), AllocError>
+    ensures ok { OnOk result (out.new.items ≡ out.old.items ++ replicate count 0) }
+    ensures err { OnErr result (out.new.items ≡ out.old.items) }
+{
+    out.reserve(count)?;
+    out.resize(out.len() + count, 0)
+}
+
+/// Appends the line of a tenant's record, without a newline. Allocates at once as much as the line
+/// may take. Fails with `AllocError` if memory runs out; then nothing was appended.
+pub fn write_record(out: &mut Vec<u8>, tenant: &Name, told: &Record) -> Result<(), AllocError>
+    requires formed { IsTrue (has_form told.now.reply) }
+    ensures line { OnOk result (out.new.items ≡ out.old.items ++ record_line tenant.now told.now) }
+    ensures err { OnErr result (out.new.items ≡ out.old.items) }
+
+    // The written bytes are a record's line, which parses to the same record.
+    ensures formed { OnOk result (IsTrue (is_record told.now)) }
+{
+    let before = out.len();
+    push_zeros(out, room_of(told))?;
+    let end = put_record(out.as_mut_slice(), before, tenant, told);
+    out.truncate(end);
+    Ok(())
 }

@@ -1,21 +1,22 @@
-//! Rows of an audit as text, read in place and written over existing bytes.
+//! Lines of the calls in an audit, put over existing bytes and appended to a vector. A row is read in place.
+ghost use Rattle.std.specs.Prelude.{◌≡◌, ◌≤◌, ◌+◌, ◌*◌, ◌++◌, length, take, IsTrue, OnOk};
 ghost use Rattle.cops_types.specs.Founds.{found_in};
-ghost use Rattle.std.specs.Prelude.{◌≡◌, ◌≤◌, ◌+◌, ◌*◌, ◌++◌, length, take, IsTrue};
 ghost use Rattle.cops_types.specs.Words.{spaced};
 ghost use Rattle.cops_node.specs.Rows.{exchange_of};
 ghost use Rattle.cops_model.specs.declared.calls.NodeReply.TheVariants.{Found};
-ghost use Rattle.cops_replay.specs.AuditText.{ended};
+ghost use Rattle.cops_replay.specs.AuditText.{ended, record_of};
 ghost use Rattle.cops_replay.specs.RecordText.{call_words, has_form, is_call, is_record, is_reply, record_line, reply_words};
 ghost use Rattle.cops_replay.specs.Room.{IsNoMoreThan, IsRoomFor, line_room, packed_record, packing_room, reply_room};
 
 use crate::put_exchanges::{
-    put_call, put_check, put_found, put_get, put_put, put_reply, room_of_call, room_of_entry,
-    room_of_parts, room_of_reply,
+    make_room, put_call, put_check, put_found, put_get, put_put, put_reply, room_of_call,
+    room_of_entry, room_of_parts, room_of_reply,
 };
 use crate::put_words::{put_ack, put_entered, put_front, put_numbered, put_versioned};
-use cops_node::{NodeId, Packing, Wanted};
+use cops_node::{AuditRow, NodeId, Packing, Wanted};
 use cops_types::placed::{put_byte, put_word};
 use cops_types::{Entry, Name};
+use std::alloc::AllocError;
 
 /// Returns the most room that the values and the lists of a call and its reply take.
 fn room_of_packing(packing: &Packing) -> usize
@@ -142,4 +143,42 @@ pub(crate) fn put_line(
     let of_reply = put_word(bytes, after_call, b" = ");
     let after_reply = put_row_reply(bytes, of_reply, packing);
     put_byte(bytes, after_reply, b'\n')
+}
+
+/// Appends the line of a call, with its newline. It is written over existing bytes and copied from
+/// there at once.
+fn push_placed(
+    out: &mut Vec<u8>,
+    place: &mut [u8],
+    name: &Name,
+    id: NodeId,
+    moment: u64,
+    packing: &Packing,
+) -> Result<(), AllocError>
+    requires { line_room packing.now ≤ length place.old }
+    ensures line { OnOk result (out.new.items
+        ≡ out.old.items ++ ended (record_line name.now (packed_record id moment packing.now))) }
+    ensures formed { IsTrue (has_form (exchange_of packing.now).reply) →
+        IsTrue (is_record (packed_record id moment packing.now)) }
+{
+    let end = put_line(place, name, id, moment, packing);
+    out.extend_from_slice(&place[..end])
+}
+
+/// Appends the line of a row, with its newline. The row is read in place. `place` is scratch space.
+pub(crate) fn push_row(
+    out: &mut Vec<u8>,
+    place: &mut Vec<u8>,
+    name: &Name,
+    id: NodeId,
+    row: &AuditRow,
+) -> Result<(), AllocError>
+    ensures line { OnOk result
+        (out.new.items ≡ out.old.items ++ ended (record_line name.now (record_of id row.now))) }
+    ensures formed { OnOk result
+        (IsTrue (has_form row.now.reply) → IsTrue (is_record (record_of id row.now))) }
+{
+    let packing = row.packing();
+    make_room(place, room_of(packing))?;
+    push_placed(out, place.as_mut_slice(), name, id, row.moment(), packing)
 }

@@ -14,9 +14,9 @@ ghost use Rattle.cops_replay.specs.ReplayText.{great_clock_of, longest_record};
 
 use crate::Replayed;
 use crate::layouts::{Layout, VersionSet};
-use crate::lone_nodes::LoneNodes;
+use crate::put_exchanges::is_told;
 use crate::reading::{is_record, next_asked};
-use crate::reply_texts::is_told;
+use crate::replaying::LoneNodes;
 use cops_types::words::Words;
 use cops_types::{Config, Fault, RequestError};
 use std::alloc::{AllocError, Global};

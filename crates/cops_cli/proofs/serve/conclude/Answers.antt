@@ -5,7 +5,7 @@ use Rattle.cops_types.specs.Head.{Whole, head_of}
 use Rattle.cops_types.specs.Sink.{sink_writer}
 use Rattle.cops_node.specs.Parts.{Shared}
 use Rattle.cops_replay.specs.AuditText.{audit_of, his_nodes}
-use Rattle.cops_replay.specs.WrittenAudits.{HaveLines, SaysSame}
+use Rattle.cops_replay.specs.AuditRuns.{HaveLines, SaysSame}
 use Rattle.cops_cli.proofs.serve.conclude.Goals as goal
 
 pub returns-in-Done-clause-ok : goal.returns-in-Done-clause-ok

@@ -6,8 +6,8 @@ use Rattle.cops_types.specs.declared.configs.Tenant.{Tenant}
 use Rattle.cops_types.specs.Head.{Whole, head_of}
 use Rattle.cops_types.specs.Sink.{AppendsFront, sink_writer}
 use Rattle.cops_node.specs.Parts.{Shared}
-use Rattle.cops_replay.specs.OpenAudits.{open_audit_of, open_config_of, open_nodes_of}
-use Rattle.cops_replay.specs.WrittenAudits.{AllReplaySame, HaveLines, SaysSame}
+use Rattle.cops_replay.specs.AuditText.{open_audit_of, open_config_of, open_nodes_of}
+use Rattle.cops_replay.specs.AuditRuns.{AllReplaySame, HaveLines, SaysSame}
 use Rattle.cops_cli.proofs.serve_lives.conclude.Goals as goal
 
 -- what holds of the tenants and nodes that are passed on holds of those that the service left

@@ -1,5 +1,4 @@
-use Rattle.std.proofs.lemmas.Option.{IfSome_then}
-use Rattle.std.proofs.lemmas.Result.{on_ok_weaker}
+use Rattle.cops_replay.proofs.Names.{IfSome_then, on_ok_weaker}
 use Rattle.cops_replay.proofs.AuditRunLemmas.{formed_for, never_read, never_refused, none_audited, on_err_any, on_ok_any, replays_same_for, says_same_left, tenants_read, writes_audit, writes_front}
 use Rattle.cops_replay.proofs.audit_runs.audit_text.Goals as goal
 

@@ -1,9 +1,6 @@
 use Rattle.std.proofs.Common.{subst}
-use Rattle.std.specs.Io.KnownBytes.{Appends}
-use Rattle.std.proofs.lemmas.Result.{on_ok_weaker}
-use Rattle.cops_types.specs.Sink.{AppendsFront, sink_writer}
-use Rattle.cops_node.specs.Clusters.{shape_of}
-use Rattle.cops_replay.proofs.NodeAudits.{cluster_replays_same}
+use Rattle.cops_replay.proofs.Names.{Appends, on_ok_weaker, AppendsFront, sink_writer, shape_of}
+use Rattle.cops_replay.proofs.AuditReplays.{cluster_replays_same}
 use Rattle.cops_replay.proofs.OpenAuditLemmas.{AreOfWorld, formed_of_world, nodes_of_world, text_of_world}
 use Rattle.cops_replay.proofs.audit_runs.write_open.Goals as goal
 

@@ -1,6 +1,5 @@
 use Rattle.std.proofs.Common.{take}
-use Rattle.std.specs.List.{AllByRecursion}
-use Rattle.cops_node.specs.Parts.{AuditFits}
+use Rattle.cops_replay.proofs.Names.{AllByRecursion, AuditFits}
 use Rattle.cops_replay.proofs.audits.audits_fit.Given as goal
 
 abbrev pub invariant-loop-node : goal.invariant-loop-node

@@ -1,12 +1,7 @@
 use Rattle.std.proofs.Common.{drop, map}
-use Rattle.cops_types.specs.Sink.{sink_failures, sink_writer}
-use Rattle.cops_types.specs.TenantConfig.{tenant_config}
-use Rattle.cops_node.specs.Parts.{solo_of}
-use Rattle.cops_model.specs.Place.{place_of}
-use Rattle.cops_replay.specs.AuditText.{record_of, records_text}
-use Rattle.cops_replay.specs.Pages.{page}
+use Rattle.cops_replay.proofs.Names.{sink_failures, sink_writer, tenant_config, solo_of, place_of, record_of, records_text, page}
 use Rattle.cops_replay.proofs.PageLemmas.{IsLeft}
-use Rattle.cops_replay.proofs.WrittenForms.{AllFormed}
+use Rattle.cops_replay.proofs.AuditTexts.{AllFormed}
 use Rattle.cops_replay.proofs.audits.put_node.Given as goal
 
 abbrev pub invariant-loop-place : goal.invariant-loop-place

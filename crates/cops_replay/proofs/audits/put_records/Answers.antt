@@ -1,15 +1,7 @@
-use Rattle.std.proofs.Common.{◌≡◌, ◌≤◌, ◌+◌, ◌<◌, ◌∙◌, length, drop, sym, ap, arith, Some}
-use Rattle.std.specs.Prelude.{slice_get}
-use Rattle.std.proofs.lemmas.List.{drop_all}
-use Rattle.std.proofs.lemmas.Option.{slice_get-get_or, slice_get_within}
-use Rattle.cops_types.specs.Sink.{sink_failures, sink_writer}
-use Rattle.cops_types.specs.TenantConfig.{tenant_config}
-use Rattle.cops_replay.specs.AuditText.{records_of, records_text, tenants_text}
-use Rattle.cops_replay.specs.OpenAudits.{nodes_at, with_tenants}
-use Rattle.cops_replay.specs.Pages.{page}
+use Rattle.std.proofs.Common.{◌≡◌, ◌≤◌, ◌+◌, ◌<◌, ◌∙◌, length, drop, sym, ap, arith, Some, slice_get}
+use Rattle.cops_replay.proofs.Names.{drop_all, slice_get-get_or, slice_get_within, sink_failures, sink_writer, tenant_config, records_of, records_text, tenants_text, nodes_at, with_tenants, page}
 use Rattle.cops_replay.proofs.PageLemmas.{all_left, left_early, less_left, none_left}
-use Rattle.cops_replay.proofs.AuditTexts.{tenants_left}
-use Rattle.cops_replay.proofs.WrittenForms.{one_tenant_formed}
+use Rattle.cops_replay.proofs.AuditTexts.{tenants_left, one_tenant_formed}
 use Rattle.cops_replay.proofs.audits.put_records.Goals as goal
 
 pub loop-place-init : goal.loop-place-init
@@ -28,9 +20,7 @@ returns-in-Err-clause-text g c =
     let tenant = c.index-tenants-place.result in
     let below : i < length tenants = omega arith in
     let found : slice_get tenants i ≡ Some tenant = slice_get-get_or tenants i tenant below ∙ ap Some (sym c.index-tenants-place.is) in
-    left_early (tenants_text config nodes 0 tenants) (records_text tenant.name (records_of (tenant_config config tenant) (nodes (tenant_config config tenant) i))) (tenants_text config nodes (i + 1) (drop (i + 1) tenants))
-    (tenants_text config nodes i (drop i tenants)) (page c.args.out.now.items (g.W.Write.contents (sink_writer c.args.sink.now)) (sink_failures c.args.sink.now))
-    (page c.loop-place.out.items (g.W.Write.contents (sink_writer c.loop-place.sink)) (sink_failures c.loop-place.sink)) c.in-Err.error
+    left_early (records_text tenant.name (records_of (tenant_config config tenant) (nodes (tenant_config config tenant) i))) (tenants_text config nodes (i + 1) (drop (i + 1) tenants)) c.in-Err.error
     (page c.put_tenant.new.out.items (g.W.Write.contents (sink_writer c.put_tenant.new.sink)) (sink_failures c.put_tenant.new.sink)) (tenants_left config nodes tenants i tenant found) c.loop-place.invariant.text c.in-Err.ensures.text
 
 pub loop-place-preserved : goal.loop-place-preserved
@@ -43,9 +33,7 @@ loop-place-preserved g c =
     let below : i < length tenants = omega arith in
     let found : slice_get tenants i ≡ Some tenant = slice_get-get_or tenants i tenant below ∙ ap Some (sym c.index-tenants-place.is) in
     record {
-      text = less_left (tenants_text config nodes 0 tenants) (records_text tenant.name (records_of (tenant_config config tenant) (nodes (tenant_config config tenant) i))) (tenants_text config nodes (i + 1) (drop (i + 1) tenants))
-          (tenants_text config nodes i (drop i tenants)) (page c.args.out.now.items (g.W.Write.contents (sink_writer c.args.sink.now)) (sink_failures c.args.sink.now))
-          (page c.loop-place.out.items (g.W.Write.contents (sink_writer c.loop-place.sink)) (sink_failures c.loop-place.sink))
+      text = less_left (records_text tenant.name (records_of (tenant_config config tenant) (nodes (tenant_config config tenant) i))) (tenants_text config nodes (i + 1) (drop (i + 1) tenants))
           (page c.put_tenant.new.out.items (g.W.Write.contents (sink_writer c.put_tenant.new.sink)) (sink_failures c.put_tenant.new.sink)) (tenants_left config nodes tenants i tenant found) c.loop-place.invariant.text c.in_default.ensures.text;
       formed = one_tenant_formed config nodes i tenant found c.loop-place.invariant.formed c.in_default.ensures.formed;
     }
@@ -69,10 +57,7 @@ returns-clause-text g c =
     let nodes = nodes_at c.args.config.now c.args.slots.now c.args.nodes.now in
     let i = c.loop-place.place in
     let past : length tenants ≤ i = omega arith in
-    none_left (tenants_text config nodes 0 tenants) (tenants_text config nodes i (drop i tenants))
-    (page c.args.out.now.items (g.W.Write.contents (sink_writer c.args.sink.now)) (sink_failures c.args.sink.now))
-    (page c.loop-place.out.items (g.W.Write.contents (sink_writer c.loop-place.sink)) (sink_failures c.loop-place.sink))
-    (ap (tenants_text config nodes i) (drop_all i tenants past)) c.loop-place.invariant.text
+    none_left (ap (tenants_text config nodes i) (drop_all i tenants past)) c.loop-place.invariant.text
 
 pub returns-clause-formed : goal.returns-clause-formed
 returns-clause-formed g c place tenant e =

@@ -1,10 +1,7 @@
 use Rattle.std.proofs.Common.{drop}
-use Rattle.cops_types.specs.Sink.{sink_failures, sink_writer}
-use Rattle.cops_replay.specs.AuditText.{tenants_text}
-use Rattle.cops_replay.specs.OpenAudits.{nodes_at, with_tenants}
-use Rattle.cops_replay.specs.Pages.{page}
+use Rattle.cops_replay.proofs.Names.{sink_failures, sink_writer, tenants_text, nodes_at, with_tenants, page}
 use Rattle.cops_replay.proofs.PageLemmas.{IsLeft}
-use Rattle.cops_replay.proofs.WrittenForms.{AreFormedBelow}
+use Rattle.cops_replay.proofs.AuditTexts.{AreFormedBelow}
 use Rattle.cops_replay.proofs.audits.put_records.Given as goal
 
 abbrev pub invariant-loop-place : goal.invariant-loop-place

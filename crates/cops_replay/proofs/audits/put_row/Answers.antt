@@ -1,7 +1,5 @@
 use Rattle.std.proofs.lemmas.Result.{err_from_is_err_and}
-use Rattle.cops_types.specs.Sink.{sink_failures, sink_writer}
-use Rattle.cops_replay.specs.AuditText.{ended, record_of}
-use Rattle.cops_replay.specs.RecordText.{record_line}
+use Rattle.cops_replay.proofs.Names.{sink_failures, sink_writer, ended, record_of, record_line}
 use Rattle.cops_replay.proofs.AuditRunLemmas.{on_ok_any}
 use Rattle.cops_replay.proofs.PageLemmas.{Puts-lack}
 use Rattle.cops_replay.proofs.audits.put_row.Goals as goal

@@ -1,17 +1,7 @@
 use Rattle.std.proofs.Common.{◌≡◌, ℕ, List, refl, subst, ◌∙◌}
-use Rattle.std.specs.List.{AllByRecursion}
-use Rattle.cops_types.specs.Head.{Whole, head_of}
-use Rattle.cops_types.specs.TenantConfig.{tenant_config}
-use Rattle.cops_types.specs.declared.configs.Config.{Config}
-use Rattle.cops_node.specs.Clusters.{shape_of}
-use Rattle.cops_node.specs.Parts.{AuditFits, Shared}
-use Rattle.cops_replay.specs.WrittenAudits.{AllReplaySame, HaveLines, SaysSame}
-use Rattle.cops_replay.proofs.NodeAudits.{cluster_replays_same}
+use Rattle.cops_replay.proofs.Names.{AllByRecursion, Whole, head_of, tenant_config, Config, shape_of, AuditFits, Shared, AllReplaySame, HaveLines, SaysSame, Appends, on_ok_weaker, AppendsFront, sink_writer, AreNodesOf, audit_of, his_nodes}
+use Rattle.cops_replay.proofs.AuditReplays.{cluster_replays_same}
 use Rattle.cops_replay.proofs.WrittenAudits.{says_same}
-use Rattle.std.specs.Io.KnownBytes.{Appends}
-use Rattle.std.proofs.lemmas.Result.{on_ok_weaker}
-use Rattle.cops_types.specs.Sink.{AppendsFront, sink_writer}
-use Rattle.cops_replay.specs.AuditText.{AreNodesOf, audit_of, his_nodes}
 use Rattle.cops_replay.proofs.OpenLists.{AreFirst, formed_of_first, nodes_of_first, text_of_first}
 use Rattle.cops_replay.proofs.PageLemmas.{front_of_none}
 use Rattle.cops_replay.proofs.audits.write_audit.Goals as goal

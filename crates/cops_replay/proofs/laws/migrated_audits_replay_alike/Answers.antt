@@ -1,11 +1,8 @@
 use Rattle.cops_replay.specs.declared.layouts.Layout.TheVariants.{Early, Today}
 use Rattle.cops_replay.proofs.EarlyRecords.{replayed_alike}
-use Rattle.cops_replay.proofs.HeadTexts.{refuses_alike, replays_alike, text_is_todays, text_reads_back}
-use Rattle.cops_replay.proofs.WholeMigrations.{alike, whole}
+use Rattle.cops_replay.proofs.HeadTexts.{replays_alike, text_is_todays, text_reads_back}
+use Rattle.cops_replay.proofs.WholeMigrations.{alike}
 use Rattle.cops_replay.proofs.laws.migrated_audits_replay_alike.Goals as goal
-
-pub returns-clause-whole : goal.returns-clause-whole
-returns-clause-whole c = whole
 
 pub returns-clause-alike : goal.returns-clause-alike
 returns-clause-alike c = alike
@@ -21,6 +18,3 @@ returns-clause-moved c = λ name old moved config records text at to clocks earl
 
 pub returns-clause-replays : goal.returns-clause-replays
 returns-clause-replays c = λ bytes config lines name text is. replays_alike bytes config lines is name text
-
-pub returns-clause-refuses : goal.returns-clause-refuses
-returns-clause-refuses c = λ bytes config lines name refusal is. refuses_alike bytes config lines is name refusal

@@ -1,5 +1,5 @@
 use Rattle.cops_replay.proofs.OneAnswer.{refused_alike, replayed_alike}
-use Rattle.cops_replay.proofs.PartsBack.{part_refuses_alike, part_replays}
+use Rattle.cops_replay.proofs.PartsBack.{part_replays}
 use Rattle.cops_replay.proofs.laws.parts_replay_alike.Goals as goal
 
 pub returns-clause-own : goal.returns-clause-own
@@ -10,6 +10,3 @@ returns-clause-own_refusal c = λ name one other layout config own refusal p q. 
 
 pub returns-clause-part : goal.returns-clause-part
 returns-clause-part c = λ name bytes part text p. part_replays name bytes part p text
-
-pub returns-clause-part_refusal : goal.returns-clause-part_refusal
-returns-clause-part_refusal c = λ name bytes part refusal p. part_refuses_alike name bytes part p refusal

@@ -1,8 +1,7 @@
 use Rattle.std.proofs.Common.{ap, ◌∙◌}
-use Rattle.std.proofs.lemmas.Result.{MatchResult-weaker, on_ok_weaker}
-use Rattle.cops_types.specs.Sink.{sink_writer}
+use Rattle.cops_replay.proofs.Names.{MatchResult-weaker, on_ok_weaker, sink_writer}
 use Rattle.cops_types.specs.Source.{source_reader}
-use Rattle.cops_replay.specs.declared.replay_machine.ReplaysOf.{ReplaysOf}
+use Rattle.cops_replay.specs.declared.replay_runs.ReplaysOf.{ReplaysOf}
 use Rattle.cops_replay.proofs.AuditRunLemmas.{on_err_any}
 use Rattle.cops_replay.proofs.ReplayRunLemmas.{all_replayed, front_replayed, nothing_replayed, refused_for, unwritten}
 use Rattle.cops_replay.proofs.replay_runs.replay_text.Goals as goal

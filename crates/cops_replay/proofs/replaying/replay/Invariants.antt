@@ -1,11 +1,5 @@
-use Rattle.std.proofs.Common.{◌≡◌, drop, List}
-use Rattle.std.specs.Prelude.{slice_get, Some}
-use Rattle.cops_types.specs.declared.configs.Tenant.{Tenant}
-use Rattle.cops_types.specs.TenantConfig.{tenant_config}
-use Rattle.cops_model.specs.SoloNode.{SoloNode}
-use Rattle.cops_replay.specs.declared.Replayed.{Replayed}
-use Rattle.cops_replay.specs.Replaying.{Finds, FindsFrom}
-use Rattle.cops_replay.specs.Replayings.{AreLoneNodes}
+use Rattle.std.proofs.Common.{◌≡◌, drop, List, slice_get, Some}
+use Rattle.cops_replay.proofs.Names.{Tenant, tenant_config, SoloNode, Replayed, Finds, FindsFrom, AreLoneNodes}
 use Rattle.cops_replay.proofs.replaying.replay.Given as goal
 
 abbrev pub invariant-loop-told : goal.invariant-loop-told

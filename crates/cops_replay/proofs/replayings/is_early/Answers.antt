@@ -1,5 +1,5 @@
 use Rattle.std.proofs.Common.{sym, ◌∙◌}
-use Rattle.cops_replay.proofs.ReplayedLines.{early_line}
+use Rattle.cops_replay.proofs.ReplayLemmas.{early_line}
 use Rattle.cops_replay.proofs.replayings.is_early.Goals as goal
 
 pub returns-then-early-clause-early : goal.returns-then-early-clause-early

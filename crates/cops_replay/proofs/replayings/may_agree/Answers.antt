@@ -1,9 +1,6 @@
-use Rattle.std.proofs.Common.{◌≤◌, length, subst, sym, arith}
-use Rattle.std.specs.Prelude.{IsTrue, nat_le, true}
-use Rattle.std.proofs.lemmas.Bool.Decides.{nat_tests}
-use Rattle.cops_replay.specs.ReplayText.{longest_record}
-use Rattle.cops_replay.specs.Replayings.{MayAgree}
-use Rattle.cops_replay.proofs.ReplayedLines.{todays_line}
+use Rattle.std.proofs.Common.{◌≤◌, length, subst, sym, arith, IsTrue, nat_le, true}
+use Rattle.cops_replay.proofs.Names.{nat_tests, longest_record, MayAgree}
+use Rattle.cops_replay.proofs.ReplayLemmas.{todays_line}
 use Rattle.cops_replay.proofs.replayings.may_agree.Goals as goal
 
 pub returns-in-Today-clause-may : goal.returns-in-Today-clause-may

@@ -1,7 +1,6 @@
 use Rattle.std.proofs.Common.{◌≡◌, ℕ, Bool, false, List, [], refl, sym, subst, ◌∙◌, append-nil}
-use Rattle.cops_types.specs.Head.{Within}
-use Rattle.cops_replay.specs.AuditFiles.{AuditRules, GoesOnAfter, head_answers, line_answers}
-use Rattle.cops_replay.specs.FileHeads.{count_in, layout_in, tells_layout}
+use Rattle.cops_replay.proofs.Names.{Within, AuditRules, head_answers, line_answers, count_in, layout_in, tells_layout}
+use Rattle.cops_replay.specs.AuditFiles.{GoesOnAfter}
 use Rattle.cops_replay.specs.declared.audit_machine.AuditFile.{AuditFile}
 use Rattle.cops_replay.specs.declared.audit_machine.AuditFile.TheVariants.{Head}
 use Rattle.cops_replay.specs.declared.file_heads.FileHead.{FileHead}

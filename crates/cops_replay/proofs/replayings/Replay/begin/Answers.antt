@@ -1,9 +1,5 @@
-use Rattle.std.proofs.Common.{◌≡◌, ◌∙◌, ◌∷◌, [], refl, subst, sym}
-use Rattle.std.specs.Prelude.{Some}
-use Rattle.cops_types.specs.declared.configs.Tenant.{Tenant}
-use Rattle.cops_types.specs.TenantConfig.{tenant_config}
-use Rattle.cops_replay.specs.Replaying.{fresh_nodes}
-use Rattle.cops_replay.specs.Replayings.{AreLoneNodes}
+use Rattle.std.proofs.Common.{◌≡◌, ◌∙◌, ◌∷◌, [], refl, subst, sym, Some}
+use Rattle.cops_replay.proofs.Names.{Tenant, tenant_config, fresh_nodes, AreLoneNodes}
 use Rattle.cops_replay.proofs.ReplayLemmas.{clock_at}
 use Rattle.cops_replay.proofs.replayings.Replay.begin.Goals as goal
 

@@ -1,6 +1,6 @@
 use Rattle.std.proofs.Common.{subst}
 use Rattle.cops_replay.specs.Replayings.{MayAgree, Standing}
-use Rattle.cops_replay.proofs.ReplayedLines.{over_line, read_line, unread_line}
+use Rattle.cops_replay.proofs.ReplayLemmas.{over_line, read_line, unread_line}
 use Rattle.cops_replay.proofs.replayings.Replay.line.Goals as goal
 
 pub returns-then-is_over-clause-replayed : goal.returns-then-is_over-clause-replayed

@@ -1,6 +1,0 @@
-use Rattle.std.proofs.Common.{◌≡◌, ◌++◌, drop}
-use Rattle.cops_replay.specs.OpenAudits.{open_slots, slots_from}
-use Rattle.cops_replay.proofs.open_audits.open_slots.Given as goal
-
-abbrev pub invariant-loop-slot : goal.invariant-loop-slot
-invariant-loop-slot l = l.slots.items ++ slots_from l.slot (drop l.slot l.tenants) ≡ open_slots l.tenants
