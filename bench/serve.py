@@ -10,6 +10,8 @@ import tempfile
 import time
 
 KEYS = 1000
+# What the command of the load client begins with.
+HOLD = []
 TICK = os.sysconf("SC_CLK_TCK")
 
 
@@ -71,7 +73,7 @@ class Service:
 
 
 def load_words(room, port, options):
-    return [f"{room}/load", str(port), "--keys", str(KEYS), "--value", "64", *map(str, options)]
+    return [*HOLD, f"{room}/load", str(port), "--keys", str(KEYS), "--value", "64", *map(str, options)]
 
 
 def serve_once(room, program, connections, depth, kind):
@@ -234,7 +236,10 @@ def main():
     parser.add_argument("--redis", action="store_true")
     parser.add_argument("--lives", type=int, default=10_000, help="how often a tenant comes and goes")
     parser.add_argument("--only", choices=("rows", "beside", "lives"))
+    parser.add_argument("--client-cores", help="the cores that hold the load client (taskset); PROGRAM may begin with taskset too")
     arguments = parser.parse_args()
+    if arguments.client_cores:
+        HOLD.extend(["taskset", "-c", arguments.client_cores])
     with tempfile.TemporaryDirectory() as room:
         os.symlink(os.path.abspath(f"{arguments.clients}/load"), f"{room}/load")
         with open(f"{room}/head", "wb") as head:
