@@ -190,6 +190,7 @@ fn wait_on<M: Machine, R: Wait>(
 }
 
 // Makes a turn of the machine, in place in the slot that the seat holds.
+#[inline(always)]
 fn turn_in_slot<M: Machine>(
     board: &Board<M>,
     place: &mut BoardSeat<M>,
@@ -249,7 +250,9 @@ pub(crate) struct DrawnTicket<M: Machine> {
 // Makes the turn of the ticket that is served; without memory it is a no-op turn.
 //
 // The answer is returned as it comes, and no call is made here that may wait. Looking at the
-// answer, joining two branches or waiting would copy its parts once more.
+// answer, joining two branches or waiting would copy its parts once more. It is inlined, so that
+// the call isn't put together and taken apart again on its way to the machine.
+#[inline(always)]
 pub(crate) fn serve<M: Machine>(
     board: &Board<M>,
     sleepers: &Sleepers,

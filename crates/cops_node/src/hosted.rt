@@ -1,6 +1,6 @@
 //! Nodes whose tenants come and go between calls.
 ghost use Rattle.std.specs.Prelude.{◌≡◌, replicate};
-ghost use Rattle.cops_node.specs.Hosting.{life_at};
+ghost use Rattle.cops_node.specs.Hosting.{life_at, unknown_tenant};
 ghost use Rattle.cops_node.specs.Parts.{MOST_SLOTS};
 
 use crate::{Home, Node, NodeCall, NodeReply};
@@ -93,6 +93,16 @@ impl HostedNode {
     }
 }
 
+// Drops a call of another life than the slot's, and returns its reply. This is a function of its own, so that a call of the
+// present life is copied at once. A call that the same function may drop is copied part by part.
+#[cold]
+#[inline(never)]
+fn refuse_other_life(_call: NodeCall) -> SlotReply
+    ensures { result ≡ unknown_tenant }
+{
+    SlotReply::Own(NodeReply::Refused(Fault::UnknownTenant))
+}
+
 impl Machine for HostedNode {
     ghost use Rattle.cops_node.specs.Hosting.{FitsSlot, IsSlotTurn, host_in};
     ghost use Rattle.cops_node.specs.Lacking.{MayLackAtSlot};
@@ -112,11 +122,12 @@ impl Machine for HostedNode {
 
     ghost may_lack = { MayLackAtSlot };
 
+    #[inline(always)]
     fn turn(&mut self, slot: u64, moment: u64, call: SlotCall) -> Result<SlotReply, AllocError> {
         match call {
             SlotCall::Own { life, call } => {
                 if life != self.life(slot) {
-                    return Ok(SlotReply::Own(NodeReply::Refused(Fault::UnknownTenant)));
+                    return Ok(refuse_other_life(call));
                 }
                 Ok(SlotReply::Own(self.node.turn(slot, moment, call)?))
             }

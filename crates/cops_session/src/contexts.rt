@@ -38,13 +38,14 @@ pub(crate) fn prepare_put(
 }
 
 /// Adds a pair that was put to the context, into reserved room.
-pub(crate) fn see_put(contexts: &mut Table<Contexts>, handle: Handle<Contexts>, pair: Pair)
-    requires { HasRoomInContext handle pair.key contexts.old.rows }
+#[inline(always)]
+pub(crate) fn see_put(contexts: &mut Table<Contexts>, handle: Handle<Contexts>, pair: &Pair)
+    requires { HasRoomInContext handle pair.now.key contexts.old.rows }
     ensures stands { (opens : List OpenContext) → ContextsStandFor contexts.old.rows opens →
-        ContextsStandFor contexts.new.rows (context_extended handle (Put pair ∷ []) opens) }
+        ContextsStandFor contexts.new.rows (context_extended handle (Put pair.now ∷ []) opens) }
     ensures numbers { contexts.new ≡ record contexts.old { rows = contexts.new.rows } }
 {
-    contexts.row_mut(handle).after_put(pair);
+    contexts.row_mut(handle).after_put(*pair);
 }
 
 /// Adds reads to the context, in order: all of them or none. Is refused if a list would exceed the

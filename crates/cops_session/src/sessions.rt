@@ -24,7 +24,7 @@ use cops_context::Context;
 use cops_handles::{Handle, Table};
 use cops_model::ByteSlices;
 use cops_node::Nodes;
-use cops_types::{Config, Fault, Key, Reads, RequestError, Tenant, Value};
+use cops_types::{Config, Fault, Key, Pair, Reads, RequestError, Tenant, Value};
 use std::alloc::{AllocError, Global};
 use std::marker::Model;
 
@@ -62,6 +62,7 @@ fn number_refusal(next: u64) -> Option<Fault>
 }
 
 /// Ends the running request.
+#[inline(always)]
 fn end(running: &mut Option<Ongoing>)
     ensures { running.new ≡ None }
 {
@@ -281,6 +282,7 @@ impl Session {
 
     /// Begins a put of a value under a key, which then takes one step. Is refused if the definition
     /// refuses it. Memory can run out for its lists.
+    #[inline(always)]
     pub fn begin_put(
         &mut self,
         handle: Handle<Contexts>,
@@ -425,22 +427,27 @@ impl Session {
                     let mut later = self.moment.max(moment);
                     let outcome = reading.step(nodes, self.setting, &mut later);
                     self.moment = later;
-                    return match outcome {
+                    match outcome {
                         Ok(step) => match step {
-                            ReadStep::Working => Ok(Progress::Working),
-                            ReadStep::Restarted => Ok(Progress::Restarted(reading.restarts)),
+                            ReadStep::Working => return Ok(Progress::Working),
+                            ReadStep::Restarted => {
+                                return Ok(Progress::Restarted(reading.restarts));
+                            }
                             ReadStep::Complete => {
                                 let reads = reading.rounds.take_reads();
                                 let context = ongoing.context;
                                 end(&mut self.running);
-                                Ok(Progress::Done(self.values(context, reads)?))
+                                match self.values(context, reads) {
+                                    Ok(answer) => return Ok(Progress::Done(answer)),
+                                    Err(error) => return Err(RequestError::from(error)),
+                                }
                             }
                         },
                         Err(error) => {
                             end(&mut self.running);
-                            end_by_error(error)
+                            return end_by_error(error);
                         }
-                    };
+                    }
                 }
                 Work::Put(_) => {}
             },
@@ -496,14 +503,15 @@ impl Session {
         ensures shape { N.shape nodes.new ≡ N.shape nodes.old }
         ensures setting { self.new.setting ≡ self.old.setting }
     {
+        let key = writing.key;
         self.moment = self.moment.max(moment);
         match write_step(nodes, self.setting, writing, self.moment) {
-            Ok(pair) => {
-                let stored = pair;
-                see_put(&mut self.contexts, context, pair);
-                Ok(Progress::Done(Answer::Stored(stored)))
+            Ok(version) => {
+                let pair = Pair { key, version };
+                see_put(&mut self.contexts, context, &pair);
+                return Ok(Progress::Done(Answer::Stored(pair)));
             }
-            Err(error) => end_by_error(error),
+            Err(error) => return end_by_error(error),
         }
     }
 

@@ -9,19 +9,16 @@ ghost use Rattle.cops_session.specs.Writing.{answer_to_put, told_put};
 use crate::ongoing::PendingPut;
 use crate::settings::Setting;
 use cops_node::{NodeCall, NodeId, NodeReply, Nodes};
-use cops_types::{Fault, Key, Pair, RequestError};
+use cops_types::{Fault, Key, RequestError, Version};
 use std::alloc::AllocError;
 
-/// Returns the pair that a put of the key stored, from the node's reply, or why it was refused.
+/// Returns the version of the key that a put stored, from the node's reply, or why it was refused.
 #[inline(always)]
-fn stored_by(key: Key, reply: &NodeReply) -> Result<Pair, RequestError>
-    ensures { told_put result ≡ answer_to_put key reply.now }
+fn stored_by(_key: &Key, reply: &NodeReply) -> Result<Version, RequestError>
+    ensures { told_put _key.now result ≡ answer_to_put _key.now reply.now }
 {
     match reply {
-        NodeReply::Stored(version) => Ok(Pair {
-            key,
-            version: *version,
-        }),
+        NodeReply::Stored(version) => Ok(*version),
         NodeReply::Refused(fault) => Err(RequestError::Refused(*fault)),
         _ => Err(RequestError::Refused(Fault::Torn)),
     }
@@ -29,8 +26,8 @@ fn stored_by(key: Key, reply: &NodeReply) -> Result<Pair, RequestError>
 
 /// Does the same for the node's result, which may be that memory ran out.
 #[inline(always)]
-fn stored_told(key: Key, answered: &Result<NodeReply, AllocError>) -> Result<Pair, RequestError>
-    ensures { told_put result ≡ answer_to_put key (told_reply answered.now) }
+fn stored_told(key: &Key, answered: &Result<NodeReply, AllocError>) -> Result<Version, RequestError>
+    ensures { told_put key.now result ≡ answer_to_put key.now (told_reply answered.now) }
 {
     match answered {
         Ok(reply) => stored_by(key, reply),
@@ -38,20 +35,20 @@ fn stored_told(key: Key, answered: &Result<NodeReply, AllocError>) -> Result<Pai
     }
 }
 
-/// Takes the one step of a put: one call, at the node of the data centre that stores the key. Fails
-/// with the reply's fault, or if the node runs out of memory.
+/// Takes the one step of a put: one call, at the node of the data centre that stores the key. Returns
+/// the version. Fails with the reply's fault, or if the node runs out of memory.
 pub(crate) fn write_step<N: Nodes>(
     nodes: &mut N,
     setting: Setting,
     writing: PendingPut,
     moment: u64,
-) -> Result<Pair, RequestError>
+) -> Result<Version, RequestError>
     requires among { IsAmong (N.shape nodes.old) setting }
     ensures called { (reply : NodeReply)
         × N.Answers nodes.old
         (record { dc = setting.dc; shard = shard_of writing.key setting.shards }) setting.slot
         moment (Put writing.key writing.value writing.deps writing.near) reply nodes.new
-        × (told_put result ≡ answer_to_put writing.key reply) }
+        × (told_put writing.key result ≡ answer_to_put writing.key reply) }
     ensures shape { N.shape nodes.new ≡ N.shape nodes.old }
 {
     let PendingPut {
@@ -71,5 +68,5 @@ pub(crate) fn write_step<N: Nodes>(
         moment,
         NodeCall::Put(key, value, deps, near),
     );
-    stored_told(same, &reply)
+    stored_told(&same, &reply)
 }

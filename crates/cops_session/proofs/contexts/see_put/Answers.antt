@@ -9,5 +9,5 @@ row_mut-requires c = ap is_some c.requires.1
 
 pub returns-clause-stands : goal.returns-clause-stands
 returns-clause-stands c = λ opens stand.
-    ContextsStandFor-extended c.args.handle c.args.contexts.now.next c.row_mut.result.now c.after_put.new.self (Put c.args.pair ∷ []) c.args.contexts.now.rows opens
+    ContextsStandFor-extended c.args.handle c.args.contexts.now.next c.row_mut.result.now c.after_put.new.self (Put c.args.pair.now ∷ []) c.args.contexts.now.rows opens
     c.row_mut.ensures.in_order c.row_mut.ensures.before c.after_put.ensures.seen stand

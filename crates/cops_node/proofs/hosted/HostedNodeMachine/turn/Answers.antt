@@ -9,8 +9,8 @@ pub returns-then-life-clause-reply : goal.returns-then-life-clause-reply
 returns-then-life-clause-reply c =
     let now = c.args.self.now in
     let apart = ne_eqb c.in-Own.life (life_at c.args.slot now) (λ same. omega (arith, c.if-life.true, c.life.ensures, same)) in
-    subst (λ (call : SlotCall). IsSlotTurn now c.args.slot c.args.moment call unknown_tenant now) (sym c.in-Own.is)
-    (unknown_turn now c.args.slot c.args.moment c.in-Own.life c.in-Own.call apart)
+    rw c.refuse_other_life.ensures (subst (λ (call : SlotCall). IsSlotTurn now c.args.slot c.args.moment call unknown_tenant now) (sym c.in-Own.is)
+    (unknown_turn now c.args.slot c.args.moment c.in-Own.life c.in-Own.call apart))
 
 pub returns-in_ok-turn-in-Own-clause-reply : goal.returns-in_ok-turn-in-Own-clause-reply
 returns-in_ok-turn-in-Own-clause-reply c =

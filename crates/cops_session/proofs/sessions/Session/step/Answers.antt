@@ -1,6 +1,6 @@
 use Rattle.std.proofs.Common.{◌≡◌, ◌∙◌, ap, refl, sym, subst, true}
 use Rattle.std.specs.Prelude.{Option, Some, Ok, Err}
-use Rattle.std.proofs.lemmas.Result.{MatchResult-weaker, err_from_is_err_and}
+use Rattle.std.proofs.lemmas.Result.{MatchResult-weaker}
 use Rattle.cops_model.specs.declared.requests.Answer.{Answer}
 use Rattle.cops_model.specs.declared.requests.Progress.TheVariants.{Working, Restarted, Done}
 use Rattle.cops_model.specs.Request.{next, values_or_full}
@@ -43,8 +43,8 @@ returns-in-Restarted-clause-stepped g c = λ config session stand.
     c.args.moment c.max-later.result next_reading later c.step-outcome.result (Ok read_step.Restarted) (Ok (Restarted next_reading.restarts)) c.max-later.ensures c.step-outcome.ensures.turned (c.in-Ok.is ∙ ap Ok c.in-Restarted.is)
     (λ running stands keys step same number action has. restarts config kept after session running ongoing.number ongoing.context reading next_reading later keys step stands refl same number action has)
 
-pub returns-in_ok-values-in-Complete-clause-stepped : goal.returns-in_ok-values-in-Complete-clause-stepped
-returns-in_ok-values-in-Complete-clause-stepped g c = λ config session stand.
+pub returns-in-Ok-values-clause-stepped : goal.returns-in-Ok-values-clause-stepped
+returns-in-Ok-values-clause-stepped g c = λ config session stand.
     let inside = c.self.inside in
     let ongoing = c.in-Some.ongoing in
     let reading = c.in-Get.reading in
@@ -52,8 +52,8 @@ returns-in_ok-values-in-Complete-clause-stepped g c = λ config session stand.
     let later = c.step-outcome.new.moment in
     let kept : KeptSession = record { setting = inside.setting; moment = inside.moment; contexts = inside.contexts; next_request = inside.next_request; running = inside.running } in
     let after : KeptSession = c.values.new.self in
-    let ended : Answer = c.in_ok-values-in-Complete.field-0 in
-    let values = c.in_ok-values-in-Complete.ensures in
+    let ended : Answer = c.in-Ok-values.answer in
+    let values = c.in-Ok-values.ensures in
     get_told config kept after session ongoing reading c.args.self.now c.self.view_is c.args.handle c.in-Some.is c.in-Get.is (sym c.runs.ensures ∙ c.if-not-runs.false) stand
     (λ slot t id call reply. g.N.Nodes.Answers c.args.nodes.now id slot t call reply c.step-outcome.new.nodes) (c.step-outcome.new.nodes ≡ c.args.nodes.now)
     c.args.moment c.max-later.result next_reading later c.step-outcome.result (Ok read_step.Complete) (Ok (Done ended)) c.max-later.ensures c.step-outcome.ensures.turned (c.in-Ok.is ∙ ap Ok c.in-Complete.is)
@@ -62,8 +62,8 @@ returns-in_ok-values-in-Complete-clause-stepped g c = λ config session stand.
     (values.stands session.contexts stands.contexts_are)
     (values.others ∙ (λ i. record { setting = inside.setting; moment = later; contexts = record inside.contexts { rows = after.contexts.rows }; next_request = inside.next_request; running = c.end.ensures i })) same action has)
 
-pub returns-in_err-values-in-Complete-clause-stepped : goal.returns-in_err-values-in-Complete-clause-stepped
-returns-in_err-values-in-Complete-clause-stepped g c = λ config session stand.
+pub returns-in-Err-values-clause-stepped : goal.returns-in-Err-values-clause-stepped
+returns-in-Err-values-clause-stepped g c = λ config session stand.
     let inside = c.self.inside in
     let ongoing = c.in-Some.ongoing in
     let reading = c.in-Get.reading in
@@ -71,12 +71,11 @@ returns-in_err-values-in-Complete-clause-stepped g c = λ config session stand.
     let later = c.step-outcome.new.moment in
     let kept : KeptSession = record { setting = inside.setting; moment = inside.moment; contexts = inside.contexts; next_request = inside.next_request; running = inside.running } in
     let after : KeptSession = c.values.new.self in
-    let failed = err_from_is_err_and c.from_residual.result c.from_residual.ensures.1 in
-    rw (failed.1, failed.2) (get_told config kept after session ongoing reading c.args.self.now c.self.view_is c.args.handle c.in-Some.is c.in-Get.is (sym c.runs.ensures ∙ c.if-not-runs.false) stand
+    rw c.from.ensures (get_told config kept after session ongoing reading c.args.self.now c.self.view_is c.args.handle c.in-Some.is c.in-Get.is (sym c.runs.ensures ∙ c.if-not-runs.false) stand
     (λ slot t id call reply. g.N.Nodes.Answers c.args.nodes.now id slot t call reply c.step-outcome.new.nodes) (c.step-outcome.new.nodes ≡ c.args.nodes.now)
     c.args.moment c.max-later.result next_reading later c.step-outcome.result (Ok read_step.Complete) (Err (record {})) c.max-later.ensures c.step-outcome.ensures.turned (c.in-Ok.is ∙ ap Ok c.in-Complete.is)
     (λ running stands keys step same number action has. lacks_reads config kept after session running ongoing.number ongoing.context reading next_reading (record {}) later keys step stands
-    (c.in_err-values-in-Complete.ensures.err ∙ (λ i. record { setting = inside.setting; moment = later; contexts = inside.contexts; next_request = inside.next_request; running = c.end.ensures i })) action has))
+    (c.in-Err-values.ensures.err ∙ (λ i. record { setting = inside.setting; moment = later; contexts = inside.contexts; next_request = inside.next_request; running = c.end.ensures i })) action has))
 
 pub returns-in-Err-clause-stepped : goal.returns-in-Err-clause-stepped
 returns-in-Err-clause-stepped g c = λ config session stand.
