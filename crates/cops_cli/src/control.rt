@@ -25,7 +25,7 @@ pub(crate) trait Follows {
 /// Follows standard input to its end.
 pub(crate) fn follow_all<R: Input, F: Follows>(rt: &R, follower: &mut F) {
     let mut reader = rt.reader();
-    let mut buffer = [0u8; 256];
+    let mut buffer = [0u8; 4096];
     for _ in 0..u64::MAX {
         match reader.read(&mut buffer) {
             Ok(0) => break,

@@ -29,25 +29,39 @@ use cops_service::{
 };
 use cops_types::{Config, Name, RequestError, Sink, Source};
 use std::alloc::Global;
+use std::fmt::{Display, Formatter};
 use std::io::{Read, Write};
 use std::net::{Net, TcpListener, TcpStream};
-use std::str;
 use std::sync::{Arc, Wait};
 use std::thread::Threads;
 use std::time::Clock;
+use std::{fmt, str};
 
 /// Returns a name as text.
 fn text_of(name: &Name) -> &str {
     str::from_utf8(name.bytes()).unwrap_or("")
 }
 
+/// The text of replies to the host, a line each.
+#[derive(Clone, Copy)]
+struct ReplyLines<'a>(&'a [HostReply]);
+
+impl Display for ReplyLines<'_> {
+    fn fmt<W: fmt::Write>(&self, f: &mut Formatter<W>) -> fmt::Result {
+        for reply in self.0 {
+            match reply {
+                HostReply::Admitted(name) => writeln!(f, "- admitted {}", text_of(name))?,
+                HostReply::Closed(name) => writeln!(f, "- closed {}", text_of(name))?,
+                HostReply::Denied(fault) => writeln!(f, "- {fault}")?,
+            }
+        }
+        Ok(())
+    }
+}
+
 impl<R: Eprint> HostReports for Told<'_, R> {
-    fn told(&self, reply: &HostReply) {
-        let _ = match reply {
-            HostReply::Admitted(name) => eprintln!(self.rt; "- admitted {}", text_of(name)),
-            HostReply::Closed(name) => eprintln!(self.rt; "- closed {}", text_of(name)),
-            HostReply::Denied(fault) => eprintln!(self.rt; "- {fault}"),
-        };
+    fn told(&self, replies: &[HostReply]) {
+        let _ = eprint!(self.rt; "{}", ReplyLines(replies));
     }
 }
 

@@ -1,5 +1,5 @@
 //! What the host's lines do at a running cluster.
-ghost use Rattle.std.specs.Prelude.{◌≡◌, ◌<◌, ◌≤◌, length};
+ghost use Rattle.std.specs.Prelude.{◌≡◌, ◌<◌, ◌≤◌, [], length};
 ghost use Rattle.cops_types.specs.OpenSlots.{open_slot_of_name};
 ghost use Rattle.cops_types.specs.Version.{last_clock};
 ghost use Rattle.cops_service.specs.Calling.{DoneForEach};
@@ -8,6 +8,7 @@ ghost use Rattle.cops_service.specs.HostedCrews.{FollowsLine, IsLineTold, IsTena
 ghost use Rattle.cops_service.specs.Rosters.{IsAdmissionTold, IsCloseTold};
 
 use crate::host_lines::HostLine;
+use crate::replies::Replies;
 use crate::reports::HostReports;
 use crate::residents::{Resident, Residents, Site};
 use crate::stops::Stop;
@@ -118,13 +119,14 @@ fn reply_to<R: Wait + Clock, S: Site>(
     }
 }
 
-/// Follows a line of the host, and reports the reply.
+/// Follows a line of the host, and keeps the reply.
 pub(crate) fn follow<R: Wait + Clock, L: HostReports, S: Site>(
     rt: &R,
     residents: &Residents<S>,
     stop: &Stop,
     reports: &L,
     host: &mut TenantHost<'_, R>,
+    replies: &mut Replies,
     line: HostLine,
 )
     requires site { host.old.desk.cluster.now ≡ S.cluster }
@@ -136,19 +138,19 @@ pub(crate) fn follow<R: Wait + Clock, L: HostReports, S: Site>(
         (record { roster = host.old.roster.now; seat = host.old.desk.seat.now })
         (record { roster = host.new.roster.now; seat = host.new.desk.seat.now }) }
 {
-    let reply = reply_to(rt, residents, stop, host, line);
-    if let Some(reply) = &reply {
-        reports.told(reply);
+    if let Some(reply) = reply_to(rt, residents, stop, host, line) {
+        replies.keep(reports, reply);
     }
 }
 
-/// Follows lines of the host, one after another.
+/// Follows lines of the host, one after another, and then reports the replies.
 pub(crate) fn follow_each<R: Wait + Clock, L: HostReports, S: Site>(
     rt: &R,
     residents: &Residents<S>,
     stop: &Stop,
     reports: &L,
     host: &mut TenantHost<'_, R>,
+    replies: &mut Replies,
     lines: &[HostLine],
 )
     requires site { host.old.desk.cluster.now ≡ S.cluster }
@@ -159,8 +161,10 @@ pub(crate) fn follow_each<R: Wait + Clock, L: HostReports, S: Site>(
     ensures follows { DoneForEach (FollowsLine host.old.desk.cluster.now) lines.now
         (record { roster = host.old.roster.now; seat = host.old.desk.seat.now })
         (record { roster = host.new.roster.now; seat = host.new.desk.seat.now }) }
+    ensures replies { replies.new.kept.items ≡ [] }
 {
     for line in lines {
-        follow(rt, residents, stop, reports, host, *line);
+        follow(rt, residents, stop, reports, host, replies, *line);
     }
+    replies.report(reports);
 }

@@ -5,9 +5,10 @@ ghost use Rattle.cops_node.specs.Parts.{are_clocks};
 ghost use Rattle.cops_service.specs.Gates.{IsSeatOf, openings};
 ghost use Rattle.cops_service.specs.HostedDesks.{AreHosted};
 
-use crate::following::follow;
+use crate::following::follow_each;
 use crate::host_lines::{HostLine, HostLines};
 use crate::hosted_tests::beta;
+use crate::replies::Replies;
 use crate::reports::HostReports;
 use crate::residents::{Residents, Site};
 use crate::stops::Stop;
@@ -34,12 +35,14 @@ struct Last {
 }
 
 impl HostReports for Last {
-    fn told(&self, reply: &HostReply) {
-        self.told.set(match reply {
-            HostReply::Admitted(_) => ADMITTED,
-            HostReply::Closed(_) => CLOSED,
-            HostReply::Denied(fault) => fault.number(),
-        });
+    fn told(&self, replies: &[HostReply]) {
+        for reply in replies {
+            self.told.set(match reply {
+                HostReply::Admitted(_) => ADMITTED,
+                HostReply::Closed(_) => CLOSED,
+                HostReply::Denied(fault) => fault.number(),
+            });
+        }
     }
 }
 
@@ -49,6 +52,7 @@ fn told<R: Wait + Clock, S: Site>(
     residents: &Residents<S>,
     stop: &Stop,
     host: &mut TenantHost<'_, R>,
+    replies: &mut Replies,
     line: HostLine,
 ) -> u8
     requires site { host.old.desk.cluster.now ≡ S.cluster }
@@ -56,7 +60,7 @@ fn told<R: Wait + Clock, S: Site>(
     ensures cluster { host.new.desk.cluster.now ≡ host.old.desk.cluster.now }
 {
     let last = Last { told: Cell::new(0) };
-    follow(rt, residents, stop, &last, host, line);
+    follow_each(rt, residents, stop, &last, host, replies, &[line]);
     last.told.get()
 }
 
@@ -80,6 +84,7 @@ fn assert_life<R: Wait + Clock + Abort, S: Site>(
     rt: &R,
     residents: &Residents<S>,
     host: &mut TenantHost<'_, R>,
+    replies: &mut Replies,
     life: u64,
 )
     requires site { host.old.desk.cluster.now ≡ S.cluster }
@@ -88,13 +93,45 @@ fn assert_life<R: Wait + Clock + Abort, S: Site>(
 {
     let stop = Stop::never();
     assert_greeted(rt, residents, host, None);
-    assert!(rt; told(rt, residents, &stop, host, HostLine::Admit(beta(rt))) == ADMITTED);
+    assert!(rt;
+        told(
+            rt,
+            residents,
+            &stop,
+            host,
+            replies,
+            HostLine::Admit(beta(rt))
+        ) == ADMITTED
+    );
     assert_greeted(rt, residents, host, Some(life));
-    let twice = told(rt, residents, &stop, host, HostLine::Admit(beta(rt)));
+    let twice = told(
+        rt,
+        residents,
+        &stop,
+        host,
+        replies,
+        HostLine::Admit(beta(rt)),
+    );
     assert!(rt; twice == Fault::NameTaken.number());
-    assert!(rt; told(rt, residents, &stop, host, HostLine::Close(beta(rt).name)) == CLOSED);
+    assert!(rt;
+        told(
+            rt,
+            residents,
+            &stop,
+            host,
+            replies,
+            HostLine::Close(beta(rt).name)
+        ) == CLOSED
+    );
     assert_greeted(rt, residents, host, None);
-    let late = told(rt, residents, &stop, host, HostLine::Close(beta(rt).name));
+    let late = told(
+        rt,
+        residents,
+        &stop,
+        host,
+        replies,
+        HostLine::Close(beta(rt).name),
+    );
     assert!(rt; late == Fault::UnknownTenant.number());
 }
 
@@ -104,13 +141,14 @@ fn assert_unread<R: Wait + Clock + Abort, S: Site>(
     residents: &Residents<S>,
     stop: &Stop,
     host: &mut TenantHost<'_, R>,
+    replies: &mut Replies,
     line: HostLine,
 )
     requires site { host.old.desk.cluster.now ≡ S.cluster }
     requires nodes { 0 < length (openings host.old.desk.cluster.now) }
     ensures cluster { host.new.desk.cluster.now ≡ host.old.desk.cluster.now }
 {
-    assert!(rt; told(rt, residents, stop, host, line) == Fault::Syntax.number());
+    assert!(rt; told(rt, residents, stop, host, replies, line) == Fault::Syntax.number());
     assert_greeted(rt, residents, host, None);
 }
 
@@ -119,6 +157,7 @@ fn assert_others<R: Wait + Clock + Abort, S: Site>(
     rt: &R,
     residents: &Residents<S>,
     host: &mut TenantHost<'_, R>,
+    replies: &mut Replies,
 )
     requires site { host.old.desk.cluster.now ≡ S.cluster }
     requires nodes { 0 < length (openings host.old.desk.cluster.now) }
@@ -126,10 +165,10 @@ fn assert_others<R: Wait + Clock + Abort, S: Site>(
     let stop = Stop::never();
     let mut late = beta(rt);
     late.first_clock = Version::LAST_CLOCK + 1;
-    assert_unread(rt, residents, &stop, host, HostLine::Unknown);
-    assert_unread(rt, residents, &stop, host, HostLine::Admit(late));
+    assert_unread(rt, residents, &stop, host, replies, HostLine::Unknown);
+    assert_unread(rt, residents, &stop, host, replies, HostLine::Admit(late));
     assert!(rt; !stop.is_asked());
-    assert!(rt; told(rt, residents, &stop, host, HostLine::End) == 0);
+    assert!(rt; told(rt, residents, &stop, host, replies, HostLine::End) == 0);
     assert!(rt; stop.is_asked());
 }
 
@@ -152,9 +191,10 @@ fn follow_at<R: Wait + Clock + Abort, S: Site>(
         desk: HostedDesk::new(rt, cluster, seat),
         roster: &mut roster,
     };
-    assert_life(rt, &residents, &mut host, 1);
-    assert_life(rt, &residents, &mut host, 2);
-    assert_others(rt, &residents, &mut host);
+    let mut replies = Replies::new(alloc).expect(rt, "memory");
+    assert_life(rt, &residents, &mut host, &mut replies, 1);
+    assert_life(rt, &residents, &mut host, &mut replies, 2);
+    assert_others(rt, &residents, &mut host, &mut replies);
 }
 
 // Opens two nodes, and follows lines there.
@@ -176,7 +216,7 @@ fn lines_of_the_host_are_followed(rt: HostRuntime) {
 #[test]
 fn lines_are_taken_in_order_until_the_end(rt: HostRuntime) {
     let lines = HostLines::new(rt.alloc()).expect(&rt, "memory");
-    let mut taken = lines.room(rt.alloc()).expect(&rt, "memory");
+    let mut taken = lines.room(rt.alloc()).expect(&rt, "memory").lines;
     assert!(&rt; lines.offer(HostLine::Unknown).is_ok());
     assert!(&rt; lines.offer(HostLine::End).is_ok());
     assert!(&rt; lines.take(&rt, &mut taken));
@@ -196,4 +236,37 @@ fn a_line_without_room_comes_back(rt: HostRuntime) {
         assert!(&rt; lines.offer(HostLine::Unknown).is_ok());
     }
     assert!(&rt; matches!(lines.offer(HostLine::End), Err(HostLine::End)));
+}
+
+// Counts reports, and the replies in them.
+#[derive(Drop)]
+struct Counted {
+    reports: Cell<usize>,
+    replies: Cell<usize>,
+}
+
+impl HostReports for Counted {
+    fn told(&self, replies: &[HostReply]) {
+        self.reports.set(self.reports.get().saturating_add(1));
+        self.replies
+            .set(self.replies.get().saturating_add(replies.len()));
+    }
+}
+
+#[test]
+fn replies_are_reported_together(rt: HostRuntime) {
+    let counted = Counted {
+        reports: Cell::new(0),
+        replies: Cell::new(0),
+    };
+    let mut replies = Replies::new(rt.alloc()).expect(&rt, "memory");
+    replies.report(&counted);
+    for _ in 0..64 {
+        replies.keep(&counted, HostReply::Denied(Fault::Syntax));
+    }
+    assert!(&rt; counted.reports.get() == 0);
+    replies.keep(&counted, HostReply::Denied(Fault::Syntax));
+    assert!(&rt; counted.reports.get() == 1 && counted.replies.get() == 64);
+    replies.report(&counted);
+    assert!(&rt; counted.reports.get() == 2 && counted.replies.get() == 65);
 }

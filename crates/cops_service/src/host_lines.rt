@@ -2,6 +2,7 @@
 ghost use Rattle.std.specs.Prelude.{◌≡◌, ◌<◌, ◌≤◌, ◌↔◌, ◌++◌, ◌∷◌, [], IfErr, IfOk, IsTrue};
 ghost use Rattle.std.specs.Vec.{vec_capacity, vec_len};
 
+use crate::replies::Replies;
 use cops_types::{Name, Tenant};
 use std::alloc::{AllocError, Global};
 use std::mem;
@@ -48,6 +49,13 @@ impl Waiting {
             self.lines.push_reserved(line);
         }
     }
+}
+
+/// Lines that are followed together, and the replies to them.
+#[derive(Drop)]
+pub(crate) struct Batch {
+    pub(crate) lines: Vec<HostLine>,
+    pub(crate) replies: Replies,
 }
 
 /// Lines of the host that wait to be followed, in order.
@@ -103,12 +111,16 @@ impl HostLines {
         goes_on
     }
 
-    /// Returns an empty list with room for all lines that may wait.
-    pub(crate) fn room(&self, alloc: Global) -> Result<Vec<HostLine>, AllocError>
-        ensures empty { IfOk result (λ room. room.items ≡ []) }
-        ensures room { IfOk result (λ room. MOST_WAITING ≤ vec_capacity room) }
+    /// Returns an empty batch with room for all lines that may wait.
+    pub(crate) fn room(&self, alloc: Global) -> Result<Batch, AllocError>
+        ensures empty { IfOk result (λ room. room.lines.items ≡ []) }
+        ensures room { IfOk result (λ room. MOST_WAITING ≤ vec_capacity room.lines) }
+        ensures replies { IfOk result (λ room. room.replies.kept.items ≡ []) }
     {
-        Vec::with_capacity(alloc, MOST_WAITING)
+        Ok(Batch {
+            lines: Vec::with_capacity(alloc, MOST_WAITING)?,
+            replies: Replies::new(alloc)?,
+        })
     }
 
     /// Ends the wait of the thread that takes lines. Lines that come later are ignored.

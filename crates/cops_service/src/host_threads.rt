@@ -17,7 +17,7 @@ use crate::cluster::{Cluster, ServiceSeat};
 use crate::dues::Collecting;
 use crate::following::follow_each;
 use crate::hellos::{Opened, open_line};
-use crate::host_lines::{HostLine, HostLines};
+use crate::host_lines::{Batch, HostLines};
 use crate::hosted_desk::{HostedDesk, LifeDesk};
 use crate::life_promises::{
     CarriesLivesPromise, CollectsLivesPromise, Followed, FollowsPromise, ServesLivesPromise,
@@ -385,7 +385,7 @@ fn collect<R: Wait + Clock, L, T: Moments + Copy, S: Site>(
 fn follow_lines<R: Wait + Clock, L: HostReports, S: Site>(
     together: Together<'_, R, L, S>,
     host: &mut TenantHost<'_, R>,
-    taken: &mut Vec<HostLine>,
+    taken: &mut Batch,
 )
     requires site { host.old.desk.cluster.now ≡ S.cluster }
     requires nodes { 0 < length (openings host.old.desk.cluster.now) }
@@ -397,16 +397,17 @@ fn follow_lines<R: Wait + Clock, L: HostReports, S: Site>(
         host.old.desk.seat.now host.new.desk.seat.now }
 {
     for _ in together.rt.forever() {
-        let goes_on = together.lines.take(together.rt, taken);
+        let goes_on = together.lines.take(together.rt, &mut taken.lines);
         follow_each(
             together.rt,
             together.residents,
             together.stop,
             together.reports,
             host,
-            taken.as_slice(),
+            &mut taken.replies,
+            taken.lines.as_slice(),
         );
-        taken.clear();
+        taken.lines.clear();
         if !goes_on {
             return;
         }
@@ -420,7 +421,7 @@ fn follow_host<R: Wait + Clock, L: HostReports, T: Copy, S: Site>(
     together: Together<'_, R, L, S>,
     mut seat: ServiceSeat<HostedNode>,
     mut roster: Roster,
-    mut taken: Vec<HostLine>,
+    mut taken: Batch,
     _moments: T,
 ) -> Followed
     requires open { IsHostedFor together.config.now together.cluster.now }

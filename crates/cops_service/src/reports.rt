@@ -34,8 +34,8 @@ pub trait Reports {
 
 /// Gets the replies to the host's lines, in the order of the lines.
 pub trait HostReports {
-    /// Gets the reply to a line.
-    fn told(&self, reply: &HostReply);
+    /// Gets the replies to lines that were followed together: one or more.
+    fn told(&self, replies: &[HostReply]);
 }
 
 /// Ignores all reports.
@@ -49,7 +49,7 @@ impl Reports for Silent {
 }
 
 impl HostReports for Silent {
-    fn told(&self, _reply: &HostReply) {}
+    fn told(&self, _replies: &[HostReply]) {}
 }
 
 /// How a connection went, beside the result of `Connection::converse`.
