@@ -104,6 +104,17 @@ impl Node {
         self.audit.get(slot as usize, place)
     }
 
+    /// Returns the call at an index of the trail of a slot, as `audit` does. `cached` is 0 at first. If
+    /// calls are read in order, most are found without a search.
+    pub fn audit_cached(&self, slot: u64, place: u64, cached: &mut usize) -> Option<&AuditRow>
+        ensures call { option_copied result ≡ slice_get (trail_of slot self.now.audit) place }
+        ensures solo { (own : Place) → place_at slot self.now ≡ Some own →
+            option_copied result ≡ slice_get (solo_of slot own self.now).trail place }
+        ensures vacant { place_at slot self.now ≡ None → result ≡ None }
+    {
+        self.audit.get_cached(slot as usize, place, cached)
+    }
+
     /// Theorem: each call in the audit could come to this node.
     pub fn audit_fits(&self)
         ensures { AuditFits self.now }

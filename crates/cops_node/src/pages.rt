@@ -1,5 +1,5 @@
 //! The audit of a node: the calls of all slots, in pages of one table.
-ghost use Rattle.std.specs.Prelude.{◌≡◌, ℕ, suc, ◌+◌, ◌/◌, ◌^◌, ◌<◌, ◌≤◌, true, [], ◌∷◌, ◌++◌, length, nat_lt, slice_get, slice_set, Some, IsSome, IfOk, OnOk, OnErr};
+ghost use Rattle.std.specs.Prelude.{◌≡◌, ℕ, suc, ◌+◌, ◌/◌, ◌^◌, ◌<◌, ◌≤◌, true, [], ◌∷◌, ◌++◌, length, nat_lt, slice_get, slice_set, Some, IsSome, IsTrue, IfOk, OnOk, OnErr};
 ghost use Rattle.std.specs.Option.{option_copied};
 ghost use Rattle.cops_node.specs.Pages.{PAGE as SIZE, AreNumbered, IsEarlier, IsListTurn, IsPageAdded, IsPageChain, IsPageList, IsPageOf, IsRefilled, number_of_page, page_at, calls_of_page, spare_in, spare_of};
 ghost use Rattle.cops_node.specs.Parts.{no_calls, noted, trail_of};
@@ -204,6 +204,28 @@ fn find(pages: &Slab<Page>, last: usize, number: u64) -> usize
     at
 }
 
+// Returns `true` if the slot's page of this number is at a place.
+fn is_page_of(pages: &Slab<Page>, slot: usize, number: u64, at: usize) -> bool
+    ensures { IsTrue result → IsPageOf pages.now.slots slot number at }
+{
+    match pages.get(at) {
+        Some(page) => page.slot == slot && page.number == number,
+        None => false,
+    }
+}
+
+// Returns the place of the page of this number, as `find` does. Looks at the place `cached` first.
+fn find_cached(pages: &Slab<Page>, slot: usize, last: usize, number: u64, cached: usize) -> usize
+    requires { (n rows : ℕ) × IsPageChain pages.now.slots slot rows (suc n) last
+        × AreNumbered pages.now.slots slot × (number ≤ n) }
+    ensures { IsPageOf pages.now.slots slot number result }
+{
+    if is_page_of(pages, slot, number, cached) {
+        return cached;
+    }
+    find(pages, last, number)
+}
+
 // Removes the pages of a list from the table.
 fn free(pages: &mut Slab<Page>, list: &mut PageList)
     requires { (slot : ℕ) × IsPageList pages.old.slots slot list.old }
@@ -272,6 +294,25 @@ impl AuditPages {
         }
         let at = find(&self.pages, list.last, place / (PAGE as u64));
         let page = &self.pages[at];
+        page.rows.get(place as usize % PAGE)
+    }
+
+    /// Returns the call of a slot at an index, as `get` does. `cached` may be any number; it becomes the
+    /// place of the call's page, so the next call of that page is found without a search.
+    pub fn get_cached(&self, slot: usize, place: u64, cached: &mut usize) -> Option<&AuditRow>
+        ensures { option_copied result ≡ slice_get (trail_of slot self.now.trails) place }
+    {
+        let list = match self.lists.get(slot) {
+            Some(list) => *list,
+            None => return None,
+        };
+        if place >= list.count {
+            return None;
+        }
+        let number = place / (PAGE as u64);
+        let there = find_cached(&self.pages, slot, list.last, number, *cached);
+        *cached = there;
+        let page = &self.pages[there];
         page.rows.get(place as usize % PAGE)
     }
 

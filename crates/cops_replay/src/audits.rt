@@ -66,8 +66,9 @@ fn put_node<W: Write>(
 {
     let name = tenant.name;
     let mut row_place = Vec::new(*out.allocator());
+    let mut cached = 0;
     for place in 0..node.audit_len(slot) {
-        let Some(row) = node.audit(slot, place) else {
+        let Some(row) = node.audit_cached(slot, place, &mut cached) else {
             unreachable!()
         };
         if let Err(error) = put_row(out, &mut row_place, sink, &name, id, row) {
@@ -146,7 +147,7 @@ fn put_records<W: Write>(
 /// place: the line of the layout, the head in its one form, and then a line for each call, by
 /// tenant, then by node, then by place in the audit.
 ///
-/// Buffers the head or a few kilobytes, beside one line and the room that a line may take. Does not
+/// Buffers the head or 32 kilobytes, beside one line and the room that a line may take. Does not
 /// flush the writer. On `Err` a prefix of the audit may have been written.
 pub(crate) fn write_audit_at<W: Write>(
     alloc: Global,
@@ -207,7 +208,7 @@ fn first_slots(alloc: Global, count: usize) -> Result<Vec<u64>, AllocError>
 /// head in its one form, and then a line for each call, by tenant, then by node, then by place in
 /// the audit.
 ///
-/// Buffers the head or a few kilobytes, beside one line and the room that a line may take. Does not
+/// Buffers the head or 32 kilobytes, beside one line and the room that a line may take. Does not
 /// flush the writer. On `Err` a prefix of the audit may have been written.
 pub fn write_audit<W: Write>(
     alloc: Global,
@@ -275,7 +276,7 @@ fn open_slots(alloc: Global, tenants: &[Option<Tenant>]) -> Result<Vec<u64>, All
 /// Writes the audit of a configuration's nodes, which come by number, for the tenants that are open: as `write_audit` does for
 /// those of the configuration, and by slot.
 ///
-/// Buffers the head or a few kilobytes, beside one line and the room that a line may take. Does not
+/// Buffers the head or 32 kilobytes, beside one line and the room that a line may take. Does not
 /// flush the writer. On `Err` a prefix of the audit may have been written.
 pub fn write_open_audit<W: Write>(
     alloc: Global,

@@ -1,4 +1,4 @@
-//! Text buffered for a writer, a few kilobytes at a time.
+//! Text buffered for a writer, some kilobytes at a time.
 ghost use Rattle.std.specs.Prelude.{◌≡◌, [], OnOk, OnErr, IfErr};
 ghost use Rattle.std.specs.Io.KnownBytes.{Appends};
 ghost use Rattle.cops_types.specs.Counts.{HasRisen};
@@ -11,7 +11,7 @@ use cops_types::{Fault, RequestError, Sink};
 use std::io::Write;
 
 /// Flush threshold: buffered text is written once it is this long.
-const FULL: usize = 4096;
+const FULL: usize = 32768;
 
 /// Writes the buffered text.
 pub(crate) fn drain<W: Write>(out: &mut Vec<u8>, sink: &mut Sink<W>) -> Result<(), RequestError>

@@ -74,7 +74,7 @@ pub(crate) fn make_room(place: &mut Vec<u8>, room: usize) -> Result<(), AllocErr
 }
 
 /// Writes the wanted version.
-fn put_wanted(bytes: &mut [u8], at: usize, wanted: &Wanted) -> usize
+pub(crate) fn put_wanted(bytes: &mut [u8], at: usize, wanted: &Wanted) -> usize
     requires { at + 41 ≤ length bytes.old }
     ensures text { take result bytes.new ≡ take at bytes.old ++ wanted_text wanted.now }
     ensures end { result ≤ at + 41 }

@@ -3,16 +3,17 @@ ghost use Rattle.std.specs.Prelude.{◌≡◌, ◌≤◌, ◌+◌, ◌*◌, ◌+
 ghost use Rattle.cops_types.specs.Founds.{found_in};
 ghost use Rattle.cops_types.specs.Words.{spaced};
 ghost use Rattle.cops_node.specs.Rows.{exchange_of};
+ghost use Rattle.cops_model.specs.declared.calls.NodeCall.TheVariants.{Get, Put};
 ghost use Rattle.cops_model.specs.declared.calls.NodeReply.TheVariants.{Found};
 ghost use Rattle.cops_replay.specs.AuditText.{ended, record_of};
 ghost use Rattle.cops_replay.specs.RecordText.{call_words, has_form, is_call, is_record, is_reply, record_line, reply_words};
-ghost use Rattle.cops_replay.specs.Room.{IsNoMoreThan, IsRoomFor, line_room, packed_record, packing_room, reply_room};
+ghost use Rattle.cops_replay.specs.Room.{IsNoMoreThan, IsRoomFor, entry_room, line_room, packed_record, packing_room, reply_room};
 
 use crate::put_exchanges::{
-    make_room, put_call, put_check, put_found, put_get, put_put, put_reply, room_of_call,
+    make_room, put_call, put_check, put_found, put_get, put_reply, put_wanted, room_of_call,
     room_of_entry, room_of_parts, room_of_reply,
 };
-use crate::put_words::{put_ack, put_entered, put_front, put_numbered, put_versioned};
+use crate::put_words::{put_ack, put_entered, put_front, put_numbered, put_stored, put_versioned};
 use cops_node::{AuditRow, NodeId, Packing, Wanted};
 use cops_types::placed::{put_byte, put_word};
 use cops_types::{Entry, Name};
@@ -59,6 +60,35 @@ fn put_found_entry(bytes: &mut [u8], at: usize, entry: &Entry) -> usize
     put_found(bytes, at, entry.version(), entry.value(), entry.deps())
 }
 
+/// Writes the put that made an entry.
+fn put_put_of(bytes: &mut [u8], at: usize, entry: &Entry) -> usize
+    requires { at + entry_room entry.now + 165 ≤ length bytes.old }
+    ensures text { take result bytes.new ≡ take at bytes.old
+        ++ spaced (call_words (Put entry.now.key entry.now.value entry.now.deps entry.now.near)) }
+    ensures end { result ≤ at + entry_room entry.now + 165 }
+    ensures formed { IsTrue
+        (is_call (Put entry.now.key entry.now.value entry.now.deps entry.now.near)) }
+{
+    let of_key = put_word(bytes, at, b"put ");
+    let after_key = entry.put_key(bytes, of_key);
+    let of_value = put_byte(bytes, after_key, b' ');
+    put_stored(bytes, of_value, entry.value(), entry.deps(), entry.near())
+}
+
+/// Writes a get of an entry's key.
+fn put_get_of(bytes: &mut [u8], at: usize, entry: &Entry, wanted: &Wanted) -> usize
+    requires { at + 165 ≤ length bytes.old }
+    ensures text { take result bytes.new
+        ≡ take at bytes.old ++ spaced (call_words (Get entry.now.key wanted.now)) }
+    ensures end { result ≤ at + 165 }
+    ensures formed { IsTrue (is_call (Get entry.now.key wanted.now)) }
+{
+    let of_key = put_word(bytes, at, b"get ");
+    let after_key = entry.put_key(bytes, of_key);
+    let of_wanted = put_byte(bytes, after_key, b' ');
+    put_wanted(bytes, of_wanted, wanted)
+}
+
 /// Writes the call.
 fn put_row_call(bytes: &mut [u8], at: usize, packing: &Packing) -> usize
     requires { at + packing_room packing.now + 165 ≤ length bytes.old }
@@ -68,13 +98,10 @@ fn put_row_call(bytes: &mut [u8], at: usize, packing: &Packing) -> usize
     ensures formed { IsTrue (is_call (exchange_of packing.now).call) }
 {
     match packing {
-        Packing::PutStored(entry) => {
-            let key = entry.key();
-            put_put(bytes, at, &key, entry.value(), entry.deps(), entry.near())
-        }
-        Packing::LatestFound(entry) => put_get(bytes, at, &entry.key(), &Wanted::Latest),
+        Packing::PutStored(entry) => put_put_of(bytes, at, entry),
+        Packing::LatestFound(entry) => put_get_of(bytes, at, entry, &Wanted::Latest),
         Packing::ExactFound(entry) => {
-            put_get(bytes, at, &entry.key(), &Wanted::Exactly(entry.version()))
+            put_get_of(bytes, at, entry, &Wanted::Exactly(entry.version()))
         }
         Packing::LatestAbsent(key) => put_get(bytes, at, &key.key(), &Wanted::Latest),
         Packing::NotCome(key, version) => {
