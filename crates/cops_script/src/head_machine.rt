@@ -6,7 +6,8 @@ ghost use Rattle.cops_types.specs.HeadReader.{front_with};
 ghost use Rattle.cops_script.specs.GoodHeads.{HeadContinues};
 ghost use Rattle.cops_script.specs.HeadRules.{IsHeadAt};
 ghost use Rattle.cops_script.specs.LineAnswers.{IfRefused};
-ghost use Rattle.cops_script.specs.ScriptRules.{head_refuses, rules_in};
+ghost use Rattle.cops_script.specs.ScriptRules.{head_refuses, line_answers, line_refuses, rules_in};
+ghost use Rattle.cops_script.specs.declared.scripts.Script.TheVariants.{Head};
 
 use crate::bodies::Body;
 use crate::scripts::{BadConfig, HeadSoFar, Script, read_head};
@@ -64,6 +65,31 @@ fn read_line<B: Body<R>, R>(
     }
 }
 
+/// Handles a line of a head. If it ends the head, the script runs from then on.
+///
+/// It is not inlined, so that the lines of a running script zero no room for a state.
+#[inline(never)]
+fn line_of_head<B: Body<R>, R: Drop>(
+    alloc: Global,
+    body: &B,
+    script: &mut Script<R>,
+    line: &[u8],
+) -> Result<(), Stop<B::Refusal>>
+    requires { (head : HeadSoFar) × (script.old ≡ Head head) }
+    ensures ok { OnOk result (line_answers B.rules body.now script.old line.now [] script.new) }
+    ensures err { IfErr result
+        (λ stop. IfRefused stop (line_refuses B.rules body.now script.old line.now)) }
+{
+    let Script::Head(head) = script else {
+        unreachable!()
+    };
+    let Some(state) = read_line(alloc, body, head, line)? else {
+        return Ok(());
+    };
+    *script = Script::Running(state);
+    Ok(())
+}
+
 impl<B: Body<R>, R: Drop> LineMachine for ScriptMachine<B, R> {
     ghost use Rattle.cops_script.specs.ScriptRules.{script_rules};
 
@@ -78,13 +104,7 @@ impl<B: Body<R>, R: Drop> LineMachine for ScriptMachine<B, R> {
         out: &mut Vec<u8>,
     ) -> Result<(), Stop<B::Refusal>> {
         match &mut self.script {
-            Script::Head(head) => {
-                let Some(state) = read_line(alloc, &self.body, head, line)? else {
-                    return Ok(());
-                };
-                self.script = Script::Running(state);
-                Ok(())
-            }
+            Script::Head(_) => line_of_head(alloc, &self.body, &mut self.script, line),
             Script::Running(state) => self.body.line(alloc, state, line, out),
         }
     }
