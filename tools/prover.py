@@ -575,26 +575,53 @@ def side_by_side():
 
 def in_lanes(tasks, lanes):
     """Runs tasks side by side, each once those that it waits for have ended, and first those with most work behind them.
-    A task is what it waits for, its weight and its call, and may add tasks by what the call returns."""
+    A task is what it waits for, its weight and its call.
+
+    No run ends before its longest chain, so that one has half of the lanes while one of its tasks can run, and the others the rest.
+    """
     behind = {key: weight for key, (_, weight, _) in tasks.items()}
     for key in reversed([*tasks]):
         for below in tasks[key][0]:
             behind[below] = max(behind[below], tasks[below][1] + behind[key])
-    left, ended, running = sorted(tasks, key=lambda it: -behind[it]), set(), {}
+    chain, half = longest_chain(tasks, behind), max(lanes // 2, 1)
+    # What runs, with its lanes.
+    left, ended, running, calls = sorted(tasks, key=lambda it: -behind[it]), set(), {}, {}
 
     def in_lane(width, call):
         LANE.width = width
         return call()
 
+    def lanes_for(key, live):
+        """Each prover may take 5 GB, so no more run than there are lanes."""
+        free = lanes - sum(running.values())
+        if not any(tasks[it][1] for it in live if it != key):
+            return min(free, 4)
+        if key in chain:
+            return min(free, half)
+        kept = sum(max(half - running.get(it, 0), 0) for it in live if it in chain)
+        return 1 if free > kept else 0
+
     with ThreadPoolExecutor(lanes) as pool:
         while left or running:
-            ready = [it for it in left if {*tasks[it][0]} <= ended][: lanes - len(running)]
+            ready = [it for it in left if {*tasks[it][0]} <= ended]
+            live = [*ready, *running]
             for key in ready:
-                left.remove(key)
-                # What nothing else can run beside gets the processors that are idle. Otherwise each has one, so that no more
-                # provers run than there are lanes: each may take 5 GB.
-                width = lanes - len(running) if not any(tasks[it][1] for it in (*ready, *running.values()) if it != key) else 1
-                running[pool.submit(in_lane, min(max(width, 1), 4), tasks[key][2])] = key
-            for done in wait(running, return_when=FIRST_COMPLETED).done:
+                width = lanes_for(key, live)
+                if width:
+                    left.remove(key)
+                    running[key] = width
+                    calls[pool.submit(in_lane, width, tasks[key][2])] = key
+            for done in wait(calls, return_when=FIRST_COMPLETED).done:
                 done.result()
-                ended.add(running.pop(done))
+                key = calls.pop(done)
+                ended.add(key)
+                del running[key]
+
+
+def longest_chain(tasks, behind):
+    """The tasks with most work behind them, each of which waits for the one before."""
+    chain, ready = [], [it for it in tasks if not tasks[it][0]]
+    while ready:
+        chain.append(max(ready, key=behind.get))
+        ready = [it for it in tasks if chain[-1] in tasks[it][0]]
+    return chain
