@@ -9,12 +9,14 @@ use crate::control::Hosted;
 use crate::faults::CliFault;
 use crate::serve::serve;
 use crate::serve_lives::serve_lives;
-use cops_replay::{audit_part_text, audit_text, extract_text, migrate_text, replay_text};
+use cops_replay::{audit_part_text, audit_text_in, extract_text, migrate_text, replay_text};
+use cops_script::{AllLines, ScriptMachine, TURNS, new_script, run_script_in};
 use cops_types::{Sink, Source};
-use cops_world::{run_script, solo_script};
+use cops_world::{World, solo_script};
 use std::alloc::Global;
 use std::convert::AsStr;
 use std::io::{Read, Write};
+use std::mem;
 use std::net::{Net, TcpListener, TcpStream};
 use std::sync::Wait;
 use std::thread::Threads;
@@ -30,7 +32,12 @@ fn run<R: Read, O: Write>(
         (streams R.remaining O.contents source.old sink.old)
         (streams R.remaining O.contents source.new sink.new) result }
 {
-    run_script(alloc, source, sink)?;
+    let mut script: ScriptMachine<AllLines, World> = new_script(AllLines);
+    let ended = run_script_in(alloc, TURNS, source, sink, &mut script);
+    // The process ends soon, and frees its memory at once. Freeing each record, queue entry and
+    // audit row by itself took up to a quarter of the time of a run.
+    mem::forget(script);
+    ended?;
     Ok(())
 }
 
@@ -59,7 +66,11 @@ fn audit<R: Read, O: Write>(
         (streams R.remaining O.contents source.old sink.old)
         (streams R.remaining O.contents source.new sink.new) result }
 {
-    audit_text(alloc, source, sink)?;
+    let mut world = None;
+    let ended = audit_text_in(alloc, source, sink, &mut world);
+    // As in `run`.
+    mem::forget(world);
+    ended?;
     Ok(())
 }
 
@@ -74,7 +85,11 @@ fn audit_alone<R: Read, O: Write>(
         (streams R.remaining O.contents source.old sink.old)
         (streams R.remaining O.contents source.new sink.new) result }
 {
-    audit_part_text(alloc, source, sink, tenant.as_bytes())?;
+    let mut world = None;
+    let ended = audit_part_text(alloc, source, sink, tenant.as_bytes(), &mut world);
+    // As in `run`.
+    mem::forget(world);
+    ended?;
     Ok(())
 }
 

@@ -24,7 +24,6 @@ use cops_types::{RequestError, Sink, Source, Tenant};
 use cops_world::{World, script_world};
 use std::alloc::Global;
 use std::io::{Read, Write};
-use std::mem;
 
 /// Writes the audit of the open tenants of a world, by slot.
 fn write_open<O: Write>(
@@ -85,7 +84,59 @@ fn write_world<O: Write>(
 /// It holds the world, and no copy of the text. If memory runs out for a line of the script, it
 /// ends and nothing is written.
 ///
-/// Call it last in a program: the memory of the world stays allocated until the process ends.
+/// The world is left in `world`, so the caller decides when its memory is freed.
+pub fn audit_text_in<R: Read, O: Write>(
+    alloc: Global,
+    source: &mut Source<R>,
+    sink: &mut Sink<O>,
+    world: &mut Option<World>,
+) -> Result<(), RunFault<BadConfig>>
+    // All is read, and the audit is written, or a prefix of it.
+    ensures end { OnOk result (IsAtEnd (R.remaining (source_reader source.new))) }
+    ensures ok { OnOk result (IfSome (R.remaining (source_reader source.old)) (λ bytes.
+        WritesAudit bytes (O.contents (sink_writer sink.old))
+        (O.contents (sink_writer sink.new)))) }
+    ensures err { OnErr result (IfSome (R.remaining (source_reader source.old)) (λ bytes.
+        WritesAuditFront bytes (O.contents (sink_writer sink.old))
+        (O.contents (sink_writer sink.new)))) }
+
+    // A replay of any tenant's records in it finds them all the same.
+    ensures replays { OnOk result (IfSome (R.remaining (source_reader source.old))
+        (λ bytes. ReplaysSameFor (head_of (lines_of bytes)))) }
+
+    // So does a replay of the text for any tenant.
+    ensures says_same { OnOk result (IfSome (R.remaining (source_reader source.old)) (λ bytes.
+        (text : List ℕ) → audit_out bytes ≡ Written text →
+        SaysSameFor (head_of (lines_of bytes)) text)) }
+
+    // Each record in it has the form of a line, and so a tenant's part can be cut out of it.
+    ensures formed { OnOk result (IfSome (R.remaining (source_reader source.old)) (λ bytes.
+        AreFormedFor (head_of (lines_of bytes)))) }
+
+    // A bad head is refused, and nothing is written then.
+    ensures bad_head { IfErr result (λ fault. IfRunRefused fault (λ bad.
+        IfSome (R.remaining (source_reader source.old))
+        (λ bytes. head_of (lines_of bytes) ≡ BadAt bad.line))) }
+    ensures unwritten { IfErr result (λ fault. IfRunRefused fault (λ bad.
+        Keeps (O.contents (sink_writer sink.old)) (O.contents (sink_writer sink.new)))) }
+
+    // The reader or the writer failed in this call, or the turns are used up.
+    ensures read_fault { IsErrOf result RunFault.ReadFault →
+        HasRisen (source_failures source.old) (source_failures source.new)
+        ⊎ HasRisenBy (source_reads source.old) (source_reads source.new) 4294967296 }
+    ensures write_fault { IsErrOf result RunFault.WriteFault →
+        HasRisen (sink_failures sink.old) (sink_failures sink.new) }
+{
+    let made = match script_world(alloc, source) {
+        Ok(made) => made,
+        Err(fault) => return Err(fault),
+    };
+    let result = write_world(alloc, sink, &made);
+    *world = Some(made);
+    result
+}
+
+/// Writes the audit of a script, as `audit_text_in` does, and frees the world.
 pub fn audit_text<R: Read, O: Write>(
     alloc: Global,
     source: &mut Source<R>,
@@ -127,14 +178,8 @@ pub fn audit_text<R: Read, O: Write>(
     ensures write_fault { IsErrOf result RunFault.WriteFault →
         HasRisen (sink_failures sink.old) (sink_failures sink.new) }
 {
-    let world = match script_world(alloc, source) {
-        Ok(world) => world,
-        Err(fault) => return Err(fault),
-    };
-    let result = write_world(alloc, sink, &world);
-    // The process ends soon, and frees its memory at once.
-    mem::forget(world);
-    result
+    let mut world = None;
+    audit_text_in(alloc, source, sink, &mut world)
 }
 
 /// Returns the fault of a script whose head is refused.
@@ -225,12 +270,13 @@ fn write_own<O: Write>(
 /// `own_audits_are_parts` says that `extract_text` cuts the same bytes out of what `audit_text`
 /// writes.
 ///
-/// Call it last in a program: the memory of the world stays allocated until the process ends.
+/// The world is left in `world`, so the caller decides when its memory is freed.
 pub fn audit_part_text<R: Read, O: Write>(
     alloc: Global,
     source: &mut Source<R>,
     sink: &mut Sink<O>,
     tenant: &[u8],
+    world: &mut Option<World>,
 ) -> Result<(), RunFault<PartRefusal>>
     // All is read, and the part is written, or a prefix of it.
     ensures end { OnOk result (IsAtEnd (R.remaining (source_reader source.new))) }
@@ -260,12 +306,11 @@ pub fn audit_part_text<R: Read, O: Write>(
     ensures write_fault { IsErrOf result RunFault.WriteFault →
         HasRisen (sink_failures sink.old) (sink_failures sink.new) }
 {
-    let world = match script_world(alloc, source) {
-        Ok(world) => world,
+    let made = match script_world(alloc, source) {
+        Ok(made) => made,
         Err(fault) => return Err(part_fault(fault)),
     };
-    let result = write_own(alloc, sink, &world, tenant);
-    // The process ends soon, and frees its memory at once.
-    mem::forget(world);
+    let result = write_own(alloc, sink, &made, tenant);
+    *world = Some(made);
     result
 }

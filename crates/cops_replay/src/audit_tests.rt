@@ -140,6 +140,21 @@ fn an_audit_has_who_is_open_at_the_end(rt: HostRuntime) {
     assert_unknown(&rt, rt.alloc(), GAMA_AND_BETA, b"zeta");
 }
 
+/// Asserts that the audit of a script is written, or a prefix of it if memory runs out.
+fn assert_prefix(rt: &impl Abort, alloc: Global, script: &[u8], audit: &[u8]) {
+    let mut source = Source::new(script);
+    let mut sink = Sink::new(Vec::new(alloc));
+    let is_whole = audit_text(alloc, &mut source, &mut sink).is_ok();
+    let text = sink.into_inner();
+    assert!(rt; audit.starts_with(text.as_slice()));
+    assert!(rt; !is_whole || text.len() == audit.len());
+}
+
+#[test]
+fn refused_memory_leaves_a_prefix_of_an_audit(rt: HostRuntime) {
+    assert_prefix(&rt, rt.alloc(), ACME_GOES, GAMA_AND_BETA);
+}
+
 #[test]
 fn an_audit_may_have_no_tenant(rt: HostRuntime) {
     assert_audit(&rt, rt.alloc(), NOBODY_COMES, NOBODY);

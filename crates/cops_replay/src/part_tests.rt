@@ -55,7 +55,9 @@ fn write_part(
 ) -> Result<(), RunFault<PartRefusal>> {
     match whole {
         Whole::Audit(audit) => extract_text(alloc, &mut Source::new(audit), sink, name),
-        Whole::Script(script) => audit_part_text(alloc, &mut Source::new(script), sink, name),
+        Whole::Script(script) => {
+            audit_part_text(alloc, &mut Source::new(script), sink, name, &mut None)
+        }
     }
 }
 

@@ -24,7 +24,6 @@ use cops_types::words::split_word;
 use cops_types::{Bytes, Config, RequestError, Sink, Source, Tenant};
 use std::alloc::{AllocError, Global};
 use std::io::{Read, Write};
-use std::mem;
 
 /// The body that replays the records of the tenant with this name.
 #[derive(Drop)]
@@ -157,8 +156,6 @@ pub(crate) const TURNS: u64 = 4_294_967_296;
 /// Skips lines of other tenants, and lines after a difference. Reads as `run_script` does, and
 /// holds the nodes and one line of at most 200,001 bytes. The nodes count their calls in place of
 /// an audit, so beyond what they store memory does not grow with the records.
-///
-/// Call it last in a program: the memory of the nodes stays allocated until the process ends.
 pub fn replay_text<R: Read, O: Write>(
     alloc: Global,
     source: &mut Source<R>,
@@ -191,8 +188,5 @@ pub fn replay_text<R: Read, O: Write>(
 {
     let name = Bytes::new(alloc, tenant)?;
     let mut replay: AuditMachine<ReplaysOf, Replay> = new_audit(ReplaysOf { name });
-    let ended = run_lines(&mut replay, alloc, TURNS, LONGEST_RECORD, source, sink);
-    // The process ends soon, and frees its memory at once.
-    mem::forget(replay);
-    ended
+    run_lines(&mut replay, alloc, TURNS, LONGEST_RECORD, source, sink)
 }

@@ -23,7 +23,7 @@ pub struct ScriptMachine<B, R> {
 }
 
 /// Returns a script before its first line.
-pub(crate) fn new_script<B, R>(body: B) -> ScriptMachine<B, R>
+pub fn new_script<B, R>(body: B) -> ScriptMachine<B, R>
     ensures body { result.body ≡ body }
     ensures head { IsHeadAt AtStart 0 result.script }
 {

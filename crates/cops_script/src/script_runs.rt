@@ -2,21 +2,21 @@
 ghost use Rattle.std.specs.Prelude.{◌≡◌, ◌⊎◌, IfErr, IfSome, IsErrOf, OnErr, OnOk};
 ghost use Rattle.std.specs.Io.KnownBytes.{IsAtEnd, Keeps};
 ghost use Rattle.cops_types.specs.Counts.{HasRisen, HasRisenBy};
-ghost use Rattle.cops_types.specs.Head.{BadAt, head_of};
+ghost use Rattle.cops_types.specs.Head.{AtStart, BadAt, head_of};
+ghost use Rattle.cops_script.specs.HeadRules.{IsHeadAt};
 ghost use Rattle.cops_script.specs.LineRuns.{IfRunRefused};
 ghost use Rattle.cops_types.specs.Lines.{lines_of};
 ghost use Rattle.cops_types.specs.Sink.{sink_failures, sink_writer};
 ghost use Rattle.cops_types.specs.Source.{source_failures, source_reader, source_reads};
 ghost use Rattle.cops_script.specs.ScriptRuns.{WritesFront, WritesScript};
 
-use crate::head_machine::{ScriptMachine, new_script};
+use crate::head_machine::ScriptMachine;
 use crate::script_machine::AllLines;
 use crate::scripts::BadConfig;
 use crate::{RunFault, Tenancy, run_lines};
 use cops_types::{Sink, Source};
 use std::alloc::Global;
 use std::io::{Read, Write};
-use std::mem;
 
 /// The most turns of a reader.
 pub const TURNS: u64 = 4_294_967_296;
@@ -24,13 +24,18 @@ pub const TURNS: u64 = 4_294_967_296;
 /// The most bytes of a line that may have a form. Reads at most one byte past it.
 pub const LONGEST_LINE: usize = 8192;
 
-/// Answers a script in a new world, in at most this many turns.
+/// Answers a script in a new world, in at most this many turns. The world stays in `script`, so the
+/// caller decides when its memory is freed.
 pub fn run_script_in<W: Tenancy + Drop, R: Read, O: Write>(
     alloc: Global,
     turns: u64,
     source: &mut Source<R>,
     sink: &mut Sink<O>,
+    script: &mut ScriptMachine<AllLines, W>,
 ) -> Result<(), RunFault<BadConfig>>
+    // No line was read.
+    requires { IsHeadAt AtStart 0 script.old.script }
+
     // All is read, and each line after the head is answered, or a prefix of the answers is written.
     ensures end { OnOk result (IsAtEnd (R.remaining (source_reader source.new))) }
     ensures ok { OnOk result (IfSome (R.remaining (source_reader source.old)) (λ bytes.
@@ -54,10 +59,5 @@ pub fn run_script_in<W: Tenancy + Drop, R: Read, O: Write>(
     ensures write_fault { IsErrOf result RunFault.WriteFault →
         HasRisen (sink_failures sink.old) (sink_failures sink.new) }
 {
-    let mut script: ScriptMachine<AllLines, W> = new_script(AllLines);
-    let ended = run_lines(&mut script, alloc, turns, LONGEST_LINE, source, sink);
-    // The process ends soon, and frees its memory at once. Freeing each record, queue entry and
-    // audit row by itself took up to a quarter of the time of a run.
-    mem::forget(script);
-    ended
+    run_lines(script, alloc, turns, LONGEST_LINE, source, sink)
 }

@@ -15,7 +15,6 @@ use crate::{RunFault, Tenancy, run_lines};
 use cops_types::{Bytes, Sink, Source};
 use std::alloc::Global;
 use std::io::{Read, Write};
-use std::mem;
 
 /// Answers the lines of one name's tenants of a script, each tenant in a new world of its own.
 pub fn solo_script_in<W: Tenancy + Drop, R: Read, O: Write>(
@@ -51,8 +50,5 @@ pub fn solo_script_in<W: Tenancy + Drop, R: Read, O: Write>(
 {
     let name = Bytes::new(alloc, tenant)?;
     let mut solo: ScriptMachine<LinesOf, SoloRun<W>> = new_script(LinesOf { name });
-    let ended = run_lines(&mut solo, alloc, TURNS, LONGEST_LINE, source, sink);
-    // As in `run_script`: the process frees the memory of the world at its end.
-    mem::forget(solo);
-    ended
+    run_lines(&mut solo, alloc, TURNS, LONGEST_LINE, source, sink)
 }

@@ -6,7 +6,7 @@ ghost use Rattle.cops_script.specs.GoodHeads.{is_good};
 use crate::test_streams::{Endless, Pieces, Trickle};
 use crate::test_worlds::{config_of, event_of, row, says};
 use crate::{Event, Reply, World, run, run_script, run_world, solo};
-use cops_script::{BadConfig, RunFault, run_script_in};
+use cops_script::{AllLines, BadConfig, RunFault, ScriptMachine, new_script, run_script_in};
 use cops_types::{Config, Fault, Sink, Source, Tenants};
 use std::alloc::{AllocError, Global};
 use std::process::Abort;
@@ -265,11 +265,21 @@ fn failing_writers_leave_a_front(rt: HostRuntime) {
     assert!(rt; sink.into_inner().taken.as_slice() == b"-".as_slice());
 }
 
+#[test]
+fn refused_memory_leaves_a_prefix_of_the_replies(rt: HostRuntime) {
+    let mut source = Source::new(SCRIPT);
+    let mut sink = Sink::new(Vec::new(rt.alloc()));
+    let is_whole = run_script(rt.alloc(), &mut source, &mut sink).is_ok();
+    let written = sink.into_inner();
+    assert!(&rt; is_whole || ANSWER.starts_with(written.as_slice()));
+}
+
 /// Asserts what is written of a script whose last line never ends, in 100 turns.
 fn assert_endless(rt: &impl Abort, alloc: Global, bytes: &[u8], answer: &[u8]) {
     let mut source = Source::new(Endless { bytes });
     let mut sink = Sink::new(Vec::new(alloc));
-    let ran = run_script_in::<World, Endless, Vec<u8>>(alloc, 100, &mut source, &mut sink);
+    let mut script: ScriptMachine<AllLines, World> = new_script(AllLines);
+    let ran = run_script_in(alloc, 100, &mut source, &mut sink, &mut script);
     assert!(rt; code(ran) == 26);
     assert!(rt; source.reads() == 100 && source.failures() == 0);
     assert!(rt; sink.into_inner().as_slice() == answer);

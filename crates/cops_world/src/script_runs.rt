@@ -10,7 +10,7 @@ ghost use Rattle.cops_script.specs.LineRuns.{IfRunRefused};
 ghost use Rattle.cops_script.specs.ScriptRuns.{WritesFront, WritesScript};
 
 use crate::World;
-use cops_script::{BadConfig, RunFault, TURNS, run_script_in};
+use cops_script::{AllLines, BadConfig, RunFault, ScriptMachine, TURNS, new_script, run_script_in};
 use cops_types::{Sink, Source};
 use std::alloc::Global;
 use std::io::{Read, Write};
@@ -19,8 +19,6 @@ use std::io::{Read, Write};
 ///
 /// Asks the reader for at most 4,096 bytes a turn, for at most 4,294,967,296 turns. Keeps at most
 /// 8,193 bytes of a line. Writes replies about once a turn.
-///
-/// A program calls this last: the world's memory is freed only when the process ends.
 pub fn run_script<R: Read, O: Write>(
     alloc: Global,
     source: &mut Source<R>,
@@ -49,5 +47,6 @@ pub fn run_script<R: Read, O: Write>(
     ensures write_fault { IsErrOf result RunFault.WriteFault →
         HasRisen (sink_failures sink.old) (sink_failures sink.new) }
 {
-    run_script_in::<World, R, O>(alloc, TURNS, source, sink)
+    let mut script: ScriptMachine<AllLines, World> = new_script(AllLines);
+    run_script_in(alloc, TURNS, source, sink, &mut script)
 }

@@ -12,16 +12,16 @@ returns-in_err-name-clause-err g c =
 
 pub returns-clause-ok : goal.returns-clause-ok
 returns-clause-ok g c =
-    on_ok_weaker c.run_lines-ended.result (all_replayed c.args.tenant.now _ _ _ c.new_audit-replay.result (ap (λ (b : ReplaysOf). b.name) c.new_audit-replay.ensures.body ∙ c.in_ok-name.ensures) c.new_audit-replay.ensures.head _ _) c.run_lines-ended.ensures.ok
+    on_ok_weaker c.run_lines.result (all_replayed c.args.tenant.now _ _ _ c.new_audit-replay.result (ap (λ (b : ReplaysOf). b.name) c.new_audit-replay.ensures.body ∙ c.in_ok-name.ensures) c.new_audit-replay.ensures.head _ _) c.run_lines.ensures.ok
 
 pub returns-clause-err : goal.returns-clause-err
 returns-clause-err g c =
-    MatchResult-weaker c.run_lines-ended.result c.run_lines-ended.ensures.err (λ x h. tt) (λ fault. front_replayed c.args.tenant.now _ _ _ c.new_audit-replay.result (ap (λ (b : ReplaysOf). b.name) c.new_audit-replay.ensures.body ∙ c.in_ok-name.ensures) c.new_audit-replay.ensures.head _ fault)
+    MatchResult-weaker c.run_lines.result c.run_lines.ensures.err (λ x h. tt) (λ fault. front_replayed c.args.tenant.now _ _ _ c.new_audit-replay.result (ap (λ (b : ReplaysOf). b.name) c.new_audit-replay.ensures.body ∙ c.in_ok-name.ensures) c.new_audit-replay.ensures.head _ fault)
 
 pub returns-clause-refused : goal.returns-clause-refused
 returns-clause-refused g c =
-    MatchResult-weaker c.run_lines-ended.result c.run_lines-ended.ensures.err (λ x h. tt) (λ fault. refused_for c.args.tenant.now _ _ _ c.new_audit-replay.result (ap (λ (b : ReplaysOf). b.name) c.new_audit-replay.ensures.body ∙ c.in_ok-name.ensures) c.new_audit-replay.ensures.head _ fault)
+    MatchResult-weaker c.run_lines.result c.run_lines.ensures.err (λ x h. tt) (λ fault. refused_for c.args.tenant.now _ _ _ c.new_audit-replay.result (ap (λ (b : ReplaysOf). b.name) c.new_audit-replay.ensures.body ∙ c.in_ok-name.ensures) c.new_audit-replay.ensures.head _ fault)
 
 pub returns-clause-unwritten : goal.returns-clause-unwritten
 returns-clause-unwritten g c =
-    MatchResult-weaker c.run_lines-ended.result c.run_lines-ended.ensures.err (λ x h. tt) (λ fault. unwritten _ _ _ _ _ fault)
+    MatchResult-weaker c.run_lines.result c.run_lines.ensures.err (λ x h. tt) (λ fault. unwritten _ _ _ _ _ fault)
