@@ -9,19 +9,19 @@ ghost use Rattle.cops_service.specs.declared.accepting.ServiceEnd.TheVariants.{N
 ghost use Rattle.cops_service.specs.Gates.{HasSplitOff, IsNewSeatOf};
 ghost use Rattle.cops_service.specs.HostedDesks.{hosted_node};
 ghost use Rattle.cops_service.specs.HostedLeft.{AreLeftByLives};
-ghost use Rattle.cops_service.specs.LifeCrews.{AreOfLifeCrew, AreServedInLives, HasSeenLives};
+ghost use Rattle.cops_service.specs.LifeCrews.{AreOfLifeCrew, AreServedInLives, HasSeenLives, IsHostedFor};
 ghost use Rattle.cops_service.specs.Rosters.{first_roster};
 
 use crate::accepting::ServiceEnd;
-use crate::cluster::{Cluster, ServiceSeat};
+use crate::cluster::Cluster;
 use crate::dues::Collecting;
 use crate::host_lines::HostLines;
 use crate::host_threads::{FinishedLives, HostedCrew, Left, Together, serve_hosted};
-use crate::hosted_seats::HostedSeat;
 use crate::notes::{Notes, Stream};
 use crate::reports::{Counts, HostReports, Reports, Totals};
 use crate::residents::{Residents, Site};
 use crate::roster::Roster;
+use crate::seated::Seated;
 use crate::serving::{Options, helpers, worker_count};
 use crate::stops::Stop;
 use crate::threads::Helpers;
@@ -71,31 +71,13 @@ struct Outcome {
     roster: Roster,
 }
 
-// The seats of the workers.
-#[tactic(auto, using(crate::proofs::SeatsDone::one_more_split, crate::proofs::SeatsDone::is_the_first))]
-fn worker_seats(
-    alloc: Global,
-    seated: &mut HostedSeat<'_>,
-    workers: u64,
-) -> Result<Vec<ServiceSeat<HostedNode>>, AllocError>
-    requires first { HasSplitOff 0 seated.old.seat }
-    ensures cluster { (seated.new.cluster ≡ seated.old.cluster)
-        × (seated.new.config ≡ seated.old.config) }
-    ensures seats { IfOk result
-        (λ seats. AllByRecursion (λ seat. IsNewSeatOf seated.old.cluster.now seat) seats.items) }
-    ensures count { IfOk result (λ seats. length seats.items ≡ workers) }
-    ensures split { OnOk result (HasSplitOff workers seated.new.seat) }
-{
-    let mut seats = Vec::new(alloc);
-    for _ in 0..workers {
-        seats.push(seated.split(alloc)?)?;
-    }
-    Ok(seats)
-}
-
 // The seats of all threads: of the workers, of the host, of the one that carries and of the one that collects.
 #[tactic(auto, using(crate::proofs::SeatsDone::one_more_split, crate::proofs::SeatsDone::is_the_first))]
-fn crew(alloc: Global, seated: &mut HostedSeat<'_>, workers: u64) -> Result<HostedCrew, AllocError>
+fn crew(
+    alloc: Global,
+    seated: &mut Seated<'_, HostedNode>,
+    workers: u64,
+) -> Result<HostedCrew, AllocError>
     requires first { HasSplitOff 0 seated.old.seat }
     ensures cluster { (seated.new.cluster ≡ seated.old.cluster)
         × (seated.new.config ≡ seated.old.config) }
@@ -107,7 +89,7 @@ fn crew(alloc: Global, seated: &mut HostedSeat<'_>, workers: u64) -> Result<Host
     ensures collector { IfOk result (λ crew. IsNewSeatOf seated.old.cluster.now crew.collector) }
     ensures split { OnOk result (HasSplitOff (workers + 1 + 1 + 1) seated.new.seat) }
 {
-    let workers = worker_seats(alloc, seated, workers)?;
+    let workers = seated.split_each(alloc, workers)?;
     let host = seated.split(alloc)?;
     let carrier = seated.split(alloc)?;
     let collector = seated.split(alloc)?;
@@ -123,7 +105,7 @@ fn crew(alloc: Global, seated: &mut HostedSeat<'_>, workers: u64) -> Result<Host
 #[tactic(auto, using(crate::proofs::LifeCrews::crew_own, crate::proofs::LifeCrews::seen_lives))]
 fn end_seats<T: Moments + Copy>(
     alloc: Global,
-    seated: &mut HostedSeat<'_>,
+    seated: &mut Seated<'_, HostedNode>,
     left: Option<Left>,
     counts: Counts,
     moments: T,
@@ -168,7 +150,7 @@ fn end_seats<T: Moments + Copy>(
 fn serve_nodes<R, T, L, S>(
     rt: &R,
     alloc: Global,
-    seated: &mut HostedSeat<'_>,
+    seated: &mut Seated<'_, HostedNode>,
     listener: &TcpListener,
     options: Options,
     host: Host<'_, L>,
@@ -179,6 +161,7 @@ where
     T: Moments + Copy + Send,
     L: Reports + HostReports + Sync,
     S: Site + Copy + Send,
+    requires open { IsHostedFor seated.old.config.now seated.old.cluster.now }
     requires site { (seated.old.config.now ≡ S.config) × (seated.old.cluster.now ≡ S.cluster) }
     requires first { HasSplitOff 0 seated.old.seat }
     ensures cluster { (seated.new.cluster ≡ seated.old.cluster)
@@ -247,7 +230,7 @@ where
     ensures refused { IfErr result (λ error. (error ≡ OutOfMemory) ⊎ (error ≡ Refused ReadFault)) }
 {
     let (cluster, seat) = Cluster::host(alloc, config)?;
-    let mut seated = HostedSeat {
+    let mut seated = Seated {
         config,
         cluster: &cluster,
         seat,

@@ -7,10 +7,6 @@ use Rattle.cops_service.proofs.Crews.{are_served}
 use Rattle.cops_service.proofs.Leaving.{are_left, are_left_together, at_some}
 use Rattle.cops_service.proofs.serving.serve_with.Goals as goal
 
-pub invariant_of-seated : goal.invariant_of-seated
-invariant_of-seated g c =
-    record { nodes = c.in_ok-cluster.ensures.nodes; shape = c.in_ok-cluster.ensures.shape; own = c.in_ok-cluster.ensures.own; sizes = c.requires.sizes }
-
 pub returns-in-Some-clause-left : goal.returns-in-Some-clause-left
 returns-in-Some-clause-left g c =
     are_left c.in_ok-cluster.cluster c.into_seat-seat.result c.in-Some.nodes.items _ c.in_ok-cluster.ensures.openings
