@@ -1,6 +1,6 @@
 -- Seats that the threads of a service give back whose tenants come and go.
-use Rattle.std.proofs.Common.{◌≡◌, ◌∙◌, ℕ, zero, suc, ◌+◌, ◌^◌, List, [], map, length, inl, inr, ap, arith, refl, sym, subst}
-use Rattle.std.specs.Prelude.{Option, Some, None}
+use Rattle.std.proofs.Common.{◌≡◌, ◌∙◌, ℕ, zero, suc, ◌+◌, ◌^◌, List, [], ◌∷◌, ◌++◌, map, length, inl, inr, ap, arith, refl, sym, subst}
+use Rattle.std.specs.Prelude.{Option, Some, None, Result, Ok, Err, IfOk, IfSome, IsSomeAnd}
 use Rattle.std.specs.List.{AllByRecursion}
 use Rattle.cops_types.specs.declared.configs.Config.{Config}
 use Rattle.cops_types.specs.declared.configs.Tenant.{Tenant}
@@ -25,11 +25,11 @@ use Rattle.cops_service.specs.HostedDesks.{CallsFirst, HostedSeat, IsInFirstLive
 use Rattle.cops_service.specs.LifeCrews.{AreOfHosts, AreOfLifeCrew, AreOfLifeServers, AreOfLifeWorkers, AreServedInLives, FollowsLines, FollowsSomeLine, HasSeenLives, ServesLives}
 use Rattle.cops_service.specs.Repeated.{IsRepeated, Repeats}
 use Rattle.cops_service.specs.Rosters.{IsAdmissionTold, IsCloseTold, IsNotKept, Roster, first_roster}
-use Rattle.cops_service.specs.SeatsDone.{HasSinceDone}
+use Rattle.cops_service.specs.SeatsDone.{AddsOne, HasSinceDone}
 use Rattle.cops_service.specs.declared.host_lines.HostLine.{HostLine}
 use Rattle.cops_service.specs.declared.host_lines.HostLine.TheVariants as line
 use Rattle.cops_service.proofs.Repeated.{repeated_for_each}
-use Rattle.cops_service.proofs.SeatsDone.{all_then_one, one_more, seen_all, whole_of_all}
+use Rattle.cops_service.proofs.SeatsDone.{added, all_then_one, one_more, seen_all, whole_of_all}
 
 -- ---- the host's lines
 
@@ -86,6 +86,31 @@ module _ (cluster : Gates Hosted) where
   lines_count before after first last (count, all) = all_count count _ _ all
 
 -- ---- the crew
+
+-- the seats of the workers and the host, to which those of the carrier and the collector are added
+module _ {L F : Type 0} (finished_in : L → Option F) (roster_in : L → Roster) (seats_in : F → List HostedSeat) where
+  abbrev Adds : L → HostedSeat → L → Type 0
+  Adds old seat new = (roster_in new ≡ roster_in old) × IfSome (finished_in new) (λ f. IsSomeAnd (finished_in old) (λ g. seats_in f ≡ seats_in g ++ seat ∷ []))
+
+  pub are_of_life_crew : {M : Type 0} (Gives : M → ℕ → M → Type 0) (moments : M) (config : Config) (cluster : Gates Hosted) (count : ℕ) (before : Roster) (first last : L)
+      → IfSome (finished_in first) (λ f. AreOfHosts Gives moments config cluster count before (roster_in first) (seats_in f))
+      → ((between : L) × AddsOne Adds (HasSinceDone cluster (CarriesLives config cluster)) first between × AddsOne Adds (HasSinceDone cluster (CollectsLives config cluster)) between last)
+      → IfSome (finished_in last) (λ f. AreOfLifeCrew Gives moments config cluster count before (roster_in last) (seats_in f))
+  are_of_life_crew Gives moments config cluster count before first last hosts (between, (carrier, carries, one), (collector, collects, two)) =
+      let servers = added seats_in (AreOfHosts Gives moments config cluster count before (roster_in first)) (HasSinceDone cluster (CarriesLives config cluster)) carrier carries (finished_in first) (finished_in between) hosts one.1 in
+      let crew = added seats_in (AreOfLifeServers Gives moments config cluster count before (roster_in first)) (HasSinceDone cluster (CollectsLives config cluster)) collector collects (finished_in between) (finished_in last) servers two.1 in
+      subst (λ roster. IfSome (finished_in last) (λ f. AreOfLifeCrew Gives moments config cluster count before roster (seats_in f))) (sym (two.0 ∙ one.0)) crew
+
+  -- so it is of what a call returns
+  pub life_crew_left : {M E : Type 0} (Gives : M → ℕ → M → Type 0) (moments : M) (config : Config) (cluster : Gates Hosted) (count : ℕ) (before : Roster) (Served : Option L → Type 0) (result : Result (Option L) E)
+      → IfOk result (λ r. IfSome r (λ last. (served : Option L) × Served served
+      × IsSomeAnd served (λ first. (between : L) × AddsOne Adds (HasSinceDone cluster (CarriesLives config cluster)) first between × AddsOne Adds (HasSinceDone cluster (CollectsLives config cluster)) between last)))
+      → ((served : Option L) → Served served → IfSome served (λ first. IfSome (finished_in first) (λ f. AreOfHosts Gives moments config cluster count before (roster_in first) (seats_in f))))
+      → IfOk result (λ r. IfSome r (λ last. IfSome (finished_in last) (λ f. AreOfLifeCrew Gives moments config cluster count before (roster_in last) (seats_in f))))
+  life_crew_left Gives moments config cluster count before Served (Err error) h hosts = tt
+  life_crew_left Gives moments config cluster count before Served (Ok None) h hosts = tt
+  life_crew_left Gives moments config cluster count before Served (Ok (Some last)) (None, was, h) hosts = absurd h
+  life_crew_left Gives moments config cluster count before Served (Ok (Some last)) (Some first, was, h) hosts = are_of_life_crew Gives moments config cluster count before first last (hosts (Some first) was) h
 
 module _ {M : Type 0} (Gives : M → ℕ → M → Type 0) (moments : M) (config : Config) (cluster : Gates Hosted) (count : ℕ) (before after : Roster) where
   -- what holds of each of their seats

@@ -1,5 +1,6 @@
 -- Seats that threads give back.
 use Rattle.std.proofs.Common.{◌≡◌, ◌∙◌, ℕ, ◌+◌, ◌-◌, ◌==◌, true, false, List, [], ◌∷◌, ◌++◌, map, length, length-append, append-nil, cond, true≢false, inl, inr, refl, sym, ap, subst, arith}
+use Rattle.std.specs.Prelude.{Option, Some, None, IfSome, IsSomeAnd}
 use Rattle.std.specs.List.{AllByRecursion}
 use Rattle.std.proofs.lemmas.Bool.Decides.{Decides-eqb}
 use Rattle.cops_gate.specs.declared.board.Account.{Account}
@@ -64,6 +65,13 @@ module _ {S : Type 0} (Are : List S → Type 0) (Is : S → Type 0) where
 
   pub one_more : (count : ℕ) → ((seats : List S) → Are seats → length seats ≡ count) → (seats : List S) → AreThenOne Are Is seats → length seats ≡ count + 1
   one_more count many seats h = let all = ap length h.are in let both = length-append h.others (h.one ∷ []) in let those = many h.others h.those in omega arith
+
+-- if seats are there, these are they, and the one that was added to them
+pub added : {F S : Type 0} (seats_in : F → List S) (Are : List S → Type 0) (Is : S → Type 0) (one : S) → Is one → (old new : Option F) → IfSome old (λ f. Are (seats_in f)) → IfSome new (λ f. IsSomeAnd old (λ g. seats_in f ≡ seats_in g ++ one ∷ []))
+    → IfSome new (λ f. AreThenOne Are Is (seats_in f))
+added seats_in Are Is one is old None are behind = tt
+added seats_in Are Is one is None (Some new) are behind = absurd behind
+added seats_in Are Is one is (Some old) (Some new) are behind = record { others = seats_in old; one = one; are = behind; those = are; that = is }
 
 -- ---- the seat that they ended into
 

@@ -1,20 +1,19 @@
 -- The threads of a service: what each did with its seat, and the one history that has it all.
 use Rattle.std.specs.Prelude.{◌≡◌, ℕ, ◌+◌, ◌^◌, List, [], ◌∷◌, ◌++◌, map, length, IsTrue}
-use Rattle.std.specs.List.{AllByRecursion}
 use Rattle.cops_types.specs.declared.configs.Config.{Config}
 use Rattle.cops_types.specs.HeadLines.{are_sizes}
-use Rattle.cops_gate.specs.Accounts.{counted_account, first_of}
 use Rattle.cops_gate.specs.History.{turns_at}
 use Rattle.cops_gate.specs.Rule.{AreDistinctNumbers, Met}
-use Rattle.cops_gate.specs.Seats.{AreMadeBy, HasAllOf, all_joined, all_spent}
+use Rattle.cops_gate.specs.Seats.{AreMadeBy}
 use Rattle.cops_node.specs.Clusters.{new_nodes, shape_of}
 use Rattle.cops_node.specs.Parts.{Shared}
 use Rattle.cops_service.specs.Calling.{CollectAll}
 use Rattle.cops_service.specs.Carried.{DeliverAll}
 use Rattle.cops_service.specs.Conversing.{ConverseAll}
 use Rattle.cops_service.specs.Desks.{AreNodes, IsDeskCall, NodeSeat, shape_in}
-use Rattle.cops_service.specs.Gates.{Gates, HasNoTurn, IsSeatOf, openings}
+use Rattle.cops_service.specs.Gates.{Gates, openings}
 use Rattle.cops_service.specs.Left.{LeavesEach}
+use Rattle.cops_service.specs.SeatsDone.{AreAllDone, HasSeenAll, HasSinceDone}
 use Rattle.cops_service.specs.Slots.{NodeLog}
 
 -- the cluster has the nodes of this configuration
@@ -36,18 +35,10 @@ module _ (config : Config) (cluster : Gates Shared) where
   abbrev pub CollectsPlaces : NodeSeat → NodeSeat → Type 0
   CollectsPlaces first last = (count : ℕ) × CollectAll (IsDeskCall cluster) config count first last
 
--- The seat, which the first seat counts, had made no turn when its thread began, and since then has done just this.
-pub record HasJustDone (cluster : Gates Shared) (Does : NodeSeat → NodeSeat → Type 0) (seat : NodeSeat) : Type 0 where
-  pub own : IsSeatOf cluster seat
-  pub account : seat.account ≡ counted_account
-  pub first : NodeSeat
-  pub no_turn : HasNoTurn first
-  pub does : Does first seat
-
 module _ {M : Type 0} (Gives : M → ℕ → M → Type 0) (moments : M) (config : Config) (cluster : Gates Shared) where
   -- the seats of so many workers
   abbrev pub AreOfWorkers : ℕ → List NodeSeat → Type 0
-  AreOfWorkers count seats = (length seats ≡ count) × AllByRecursion (HasJustDone cluster (ServesClients config cluster Gives moments)) seats
+  AreOfWorkers = AreAllDone cluster (ServesClients config cluster Gives moments)
 
   -- the seats of so many workers, and then that of the carrier
   pub record AreOfServers (count : ℕ) (seats : List NodeSeat) : Type 0 where
@@ -55,7 +46,7 @@ module _ {M : Type 0} (Gives : M → ℕ → M → Type 0) (moments : M) (config
     pub carrier : NodeSeat
     pub are : seats ≡ workers ++ carrier ∷ []
     pub serve : AreOfWorkers count workers
-    pub carries : HasJustDone cluster (CarriesStreams config cluster) carrier
+    pub carries : HasSinceDone cluster (CarriesStreams config cluster) carrier
 
   -- and then that of the collector
   pub record AreOfCrew (count : ℕ) (seats : List NodeSeat) : Type 0 where
@@ -63,17 +54,11 @@ module _ {M : Type 0} (Gives : M → ℕ → M → Type 0) (moments : M) (config
     pub collector : NodeSeat
     pub are : seats ≡ servers ++ collector ∷ []
     pub serve : AreOfServers count servers
-    pub collects : HasJustDone cluster (CollectsPlaces config cluster) collector
+    pub collects : HasSinceDone cluster (CollectsPlaces config cluster) collector
 
-  -- A seat has seen all that the threads' seats saw, and of the turns of each those that it made. It is the first seat, has made no turn, and these
-  -- seats ended into it, which are all that were split off from it. It knows at which nodes they met the last ticket
-  pub record HasSeenCrew (workers : ℕ) (seat : NodeSeat) : Type 0 where
-    pub seats : List NodeSeat
-    pub crew : AreOfCrew workers seats
-    pub all : AllByRecursion (HasAllOf seat.history) seats
-    pub no_turn : HasNoTurn seat
-    pub account : seat.account ≡ all_joined (first_of (workers + 1 + 1)) seats
-    pub spent : seat.spent ≡ all_spent [] seats
+  -- the first seat, into which the threads' seats ended
+  abbrev pub HasSeenCrew : ℕ → NodeSeat → Type 0
+  HasSeenCrew workers = HasSeenAll (AreOfCrew workers) (workers + 1 + 1)
 
 -- One history leaves these nodes from the new ones of the configuration. It has all that the threads' seats saw, and each of its turns was made by one
 -- of these seats, no two of which have one number. The turns of a seat are those that it made: conversations of a worker, carriers, or collections.

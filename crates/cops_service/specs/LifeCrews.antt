@@ -20,7 +20,7 @@ use Rattle.cops_service.specs.HostedDesks.{AreHosted, HostedSeat, IsInFirstLives
 use Rattle.cops_service.specs.HostedLeft.{LeavesEachHosted}
 use Rattle.cops_service.specs.Repeated.{IsRepeated}
 use Rattle.cops_service.specs.Rosters.{Roster, first_roster}
-use Rattle.cops_service.specs.SeatsDone.{AreThenOne, HasSeenAll, HasSinceDone}
+use Rattle.cops_service.specs.SeatsDone.{AreAllDone, AreThenOne, HasSeenAll, HasSinceDone}
 use Rattle.cops_service.specs.declared.host_lines.HostLine.{HostLine}
 use Rattle.cops_service.specs.declared.roster.Life.{Life}
 
@@ -62,7 +62,7 @@ module _ (cluster : Gates Hosted) where
 module _ {M : Type 0} (Gives : M → ℕ → M → Type 0) (moments : M) (config : Config) (cluster : Gates Hosted) where
   -- the seats of so many workers
   abbrev pub AreOfLifeWorkers : ℕ → List HostedSeat → Type 0
-  AreOfLifeWorkers count seats = (length seats ≡ count) × AllByRecursion (HasSinceDone cluster (ServesLives config cluster Gives moments)) seats
+  AreOfLifeWorkers = AreAllDone cluster (ServesLives config cluster Gives moments)
 
   -- and then that of the host, who began and ended with these tenants
   abbrev pub AreOfHosts : ℕ → Roster → Roster → List HostedSeat → Type 0

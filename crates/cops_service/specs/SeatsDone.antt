@@ -1,5 +1,5 @@
 -- Seats that threads gave back, and the seat into which they ended.
-use Rattle.std.specs.Prelude.{◌≡◌, ℕ, List, [], ◌∷◌, ◌++◌}
+use Rattle.std.specs.Prelude.{◌≡◌, ℕ, List, [], ◌∷◌, ◌++◌, length}
 use Rattle.std.specs.List.{AllByRecursion}
 use Rattle.cops_gate.specs.Accounts.{counted_account, first_of}
 use Rattle.cops_gate.specs.Seats.{HasAllOf, Known, all_joined, all_spent}
@@ -12,6 +12,14 @@ pub record HasSinceDone {M C R : Type 0} (cluster : Gates M) (Does : Known M C R
   pub first : Known M C R
   pub no_turn : HasNoTurn first
   pub does : Does first seat
+
+-- the seats of so many threads, each of which has since done just this
+abbrev pub AreAllDone : {M C R : Type 0} → Gates M → (Known M C R → Known M C R → Type 0) → ℕ → List (Known M C R) → Type 0
+AreAllDone cluster Does count seats = (length seats ≡ count) × AllByRecursion (HasSinceDone cluster Does) seats
+
+-- a seat of which this holds is added
+abbrev pub AddsOne : {G S : Type 0} → (G → S → G → Type 0) → (S → Type 0) → G → G → Type 0
+AddsOne {S = S} adds Is before after = (one : S) × Is one × adds before one after
 
 -- A seat has seen all that the threads' seats saw, and of the turns of each those that it made. It is the first seat, has made no turn, and these
 -- seats ended into it, which are all so many that were split off from it. It knows at which nodes they met the last ticket

@@ -1,12 +1,11 @@
 //! A service whose tenants come and go.
 ghost use Rattle.std.specs.Prelude.{◌≡◌, ◌≢◌, ◌⊎◌, ◌+◌, map, max, length, OnOk, IsTrue, IfOk, IfErr, IfSome};
-ghost use Rattle.std.specs.List.{AllByRecursion};
 ghost use Rattle.cops_types.specs.declared.faults.Fault.TheVariants.{ReadFault};
 ghost use Rattle.cops_types.specs.declared.request_errors.RequestError.TheVariants.{OutOfMemory, Refused};
 ghost use Rattle.cops_types.specs.HeadLines.{are_sizes};
 ghost use Rattle.cops_node.specs.Parts.{are_clocks};
 ghost use Rattle.cops_service.specs.declared.accepting.ServiceEnd.TheVariants.{NoThread};
-ghost use Rattle.cops_service.specs.Gates.{HasSplitOff, IsNewSeatOf};
+ghost use Rattle.cops_service.specs.Gates.{HasSplitOff};
 ghost use Rattle.cops_service.specs.HostedDesks.{hosted_node};
 ghost use Rattle.cops_service.specs.HostedLeft.{AreLeftByLives};
 ghost use Rattle.cops_service.specs.LifeCrews.{AreOfLifeCrew, AreServedInLives, HasSeenLives, IsHostedFor};
@@ -16,15 +15,16 @@ use crate::accepting::ServiceEnd;
 use crate::cluster::Cluster;
 use crate::dues::Collecting;
 use crate::host_lines::HostLines;
-use crate::host_threads::{FinishedLives, HostedCrew, Left, Together, serve_hosted};
+use crate::host_threads::{Left, Together, serve_hosted};
 use crate::notes::{Notes, Stream};
 use crate::reports::{Counts, HostReports, Reports, Totals};
 use crate::residents::{Residents, Site};
 use crate::roster::Roster;
 use crate::seated::Seated;
-use crate::serving::{Options, helpers, worker_count};
+use crate::serving::{Listening, Options, helpers, worker_count};
+use crate::shared::Shared;
 use crate::stops::Stop;
-use crate::threads::Helpers;
+use crate::tasks::Finished;
 use crate::waiting::Waiting;
 use cops_node::{HostedNode, Node};
 use cops_types::{Config, Fault, RequestError};
@@ -71,36 +71,6 @@ struct Outcome {
     roster: Roster,
 }
 
-// The seats of all threads: of the workers, of the host, of the one that carries and of the one that collects.
-#[tactic(auto, using(crate::proofs::SeatsDone::one_more_split, crate::proofs::SeatsDone::is_the_first))]
-fn crew(
-    alloc: Global,
-    seated: &mut Seated<'_, HostedNode>,
-    workers: u64,
-) -> Result<HostedCrew, AllocError>
-    requires first { HasSplitOff 0 seated.old.seat }
-    ensures cluster { (seated.new.cluster ≡ seated.old.cluster)
-        × (seated.new.config ≡ seated.old.config) }
-    ensures workers { IfOk result (λ crew.
-        AllByRecursion (λ seat. IsNewSeatOf seated.old.cluster.now seat) crew.workers.items) }
-    ensures count { IfOk result (λ crew. length crew.workers.items ≡ workers) }
-    ensures host { IfOk result (λ crew. IsNewSeatOf seated.old.cluster.now crew.host) }
-    ensures carrier { IfOk result (λ crew. IsNewSeatOf seated.old.cluster.now crew.carrier) }
-    ensures collector { IfOk result (λ crew. IsNewSeatOf seated.old.cluster.now crew.collector) }
-    ensures split { OnOk result (HasSplitOff (workers + 1 + 1 + 1) seated.new.seat) }
-{
-    let workers = seated.split_each(alloc, workers)?;
-    let host = seated.split(alloc)?;
-    let carrier = seated.split(alloc)?;
-    let collector = seated.split(alloc)?;
-    Ok(HostedCrew {
-        workers,
-        host,
-        carrier,
-        collector,
-    })
-}
-
 // Ends the seats that the threads gave back. Returns how the service ended, and the tenants that are open.
 #[tactic(auto, using(crate::proofs::LifeCrews::crew_own, crate::proofs::LifeCrews::seen_lives))]
 fn end_seats<T: Moments + Copy>(
@@ -124,7 +94,7 @@ fn end_seats<T: Moments + Copy>(
     let _ = (moments, workers);
     match left {
         Some(Left { finished, roster }) => match finished {
-            Some(FinishedLives { end, seats }) => {
+            Some(Finished { end, seats }) => {
                 seated.end_all(seats);
                 Ok(Outcome {
                     end,
@@ -171,27 +141,33 @@ where
         (first_roster seated.old.config.now) outcome.roster seated.new.seat) }
 {
     let workers = worker_count(&options);
-    let crew = crew(alloc, seated, workers)?;
+    let crew = seated.crew(alloc, workers)?;
+    let host_seat = seated.split(alloc)?;
     let roster = Roster::of(alloc, seated.config)?;
     let residents = Residents::<S>::of(alloc, seated.config, seated.cluster, &mut seated.seat)?;
     let notes = Notes::of_slots(alloc, seated.config, MOST_TENANTS)?;
     let helpers = helpers(alloc, seated.config, &notes)?;
     let totals = Totals::new();
-    let together = Together {
+    let shared = Shared {
         rt,
         alloc,
         config: seated.config,
         cluster: seated.cluster,
-        listener,
-        options,
+        listening: Listening {
+            listener,
+            options,
+            stop: host.stop,
+            reports: host.reports,
+        },
         notes: &notes,
-        stop: host.stop,
         totals: &totals,
-        reports: host.reports,
+    };
+    let together = Together {
+        shared,
         residents: &residents,
         lines: host.lines,
     };
-    let left = serve_hosted(together, crew, helpers, roster, moments)?;
+    let left = serve_hosted(together, crew, host_seat, helpers, roster, moments)?;
     end_seats(alloc, seated, left, totals.counts(), moments, workers)
 }
 

@@ -1,15 +1,15 @@
 //! The threads of a service whose tenants come and go.
-ghost use Rattle.std.specs.Prelude.{◌≡◌, ◌<◌, ◌⊎◌, ⊤, [], length, IfOk, IfSome};
+ghost use Rattle.std.specs.Prelude.{◌≡◌, ◌<◌, ◌⊎◌, ◌∷◌, ◌++◌, ⊤, [], length, IfOk, IfSome, IsSomeAnd};
 ghost use Rattle.std.specs.List.{AllByRecursion};
 ghost use Rattle.std.specs.Thread.{IsSend, IsSync};
 ghost use Rattle.cops_model.specs.MainTheorem.{with_tenant_alone};
 ghost use Rattle.cops_service.specs.Admitted.{ShowsLife};
 ghost use Rattle.cops_service.specs.Gates.{HasSeenMore, IsNewSeatOf, openings};
 ghost use Rattle.cops_service.specs.HostedCrews.{CarriesLives, CollectsLives};
-ghost use Rattle.cops_service.specs.LifeCrews.{AreOfHosts, AreOfLifeCrew, AreOfLifeServers, AreOfLifeWorkers, ConversesInLife, FollowsLines, IsHostedFor, ServesInLife, ServesLives};
+ghost use Rattle.cops_service.specs.LifeCrews.{AreOfHosts, AreOfLifeCrew, ConversesInLife, FollowsLines, IsHostedFor, ServesInLife, ServesLives};
 ghost use Rattle.cops_service.specs.SeatsDone.{HasSinceDone};
 
-use crate::accepting::{Accepted, ServiceEnd, accept_each};
+use crate::accepting::Accepted;
 use crate::ahead::Ahead;
 use crate::carrying_lives::{carry_lives, collect_lives};
 use crate::clients::serve_watched;
@@ -19,47 +19,35 @@ use crate::following::follow_each;
 use crate::hellos::{Opened, open_line};
 use crate::host_lines::{Batch, HostLines};
 use crate::hosted_desk::{HostedDesk, LifeDesk};
-use crate::life_promises::{
-    CarriesLivesPromise, CollectsLivesPromise, Followed, FollowsPromise, ServesLivesPromise,
-};
-use crate::lines::{Line, grace_of};
+use crate::lines::Line;
 use crate::living::LivingDesk;
-use crate::notes::Notes;
-use crate::reports::{HostReports, Reports, Totals};
+use crate::reports::{HostReports, Reports};
 use crate::residents::{Resident, Residents, Site};
 use crate::roster::Roster;
-use crate::serving::Options;
-use crate::stops::Stop;
+use crate::seated::Crew;
+use crate::shared::{Carrying, Helpers, Shared};
+use crate::tasks::{Finished, Gathered, Job, Task, accept_and_serve, serve_helped};
 use crate::tenant_host::TenantHost;
-use crate::threads::{Carrying, Helpers, conclude};
+use crate::threads::conclude;
 use crate::watching::Stay;
 use cops_gate::ClusterSeat;
 use cops_node::HostedNode;
 use cops_types::{Config, RequestError, Tenant, Tenants};
 use cops_wire::{Ended, Moments};
-use crossbeam_channel::Receiver;
+use crossbeam_channel::{Receiver, Sender};
 use std::alloc::{AllocError, Global};
-use std::net::TcpListener;
+use std::snapshot::Snapshot;
 use std::sync::Wait;
 use std::thread;
-use std::thread::{PromisedHandle, Threads};
+use std::thread::{Promise, Threads};
 use std::time::Clock;
 
 /// What all threads share.
 pub(crate) struct Together<'a, R, L, S: Site> {
-    pub(crate) rt: &'a R,
-    pub(crate) alloc: Global,
-    pub(crate) config: &'a Config,
-    pub(crate) cluster: &'a Cluster<HostedNode>,
-    pub(crate) listener: &'a TcpListener,
-    pub(crate) options: Options,
-    pub(crate) notes: &'a Notes,
-    pub(crate) stop: &'a Stop,
-    pub(crate) totals: &'a Totals,
-    pub(crate) reports: &'a L,
+    pub(crate) shared: Shared<'a, R, L, HostedNode>,
     pub(crate) residents: &'a Residents<S>,
     pub(crate) lines: &'a HostLines,
-    pub(crate) ghost site: { (config.now ≡ S.config) × (cluster.now ≡ S.cluster) },
+    pub(crate) ghost site: { (shared.config.now ≡ S.config) × (shared.cluster.now ≡ S.cluster) },
 }
 
 impl<R, L, S: Site> Clone for Together<'_, R, L, S> {
@@ -74,32 +62,32 @@ impl<R, L, S: Site> Clone for Together<'_, R, L, S> {
 
 impl<R, L, S: Site> Copy for Together<'_, R, L, S> {}
 
-/// The seats of all threads.
-#[derive(Drop)]
-pub(crate) struct HostedCrew {
-    pub(crate) workers: Vec<ServiceSeat<HostedNode>>,
-    pub(crate) host: ServiceSeat<HostedNode>,
-    pub(crate) carrier: ServiceSeat<HostedNode>,
-    pub(crate) collector: ServiceSeat<HostedNode>,
-}
-
-/// How a service ended whose threads were all started, and the seats that they gave back: those of the workers, the host's,
-/// the carrier's and the collector's.
-#[derive(Drop)]
-pub(crate) struct FinishedLives {
-    pub(crate) end: ServiceEnd,
-    pub(crate) seats: Vec<ClusterSeat<HostedNode>>,
-}
-
-/// The same, or none if a worker couldn't be started, and the tenants that are open then.
+/// How a service ended whose threads were all started, with their seats, or none if a worker couldn't be started. And the
+/// tenants that are open then.
 #[derive(Drop)]
 pub(crate) struct Left {
-    pub(crate) finished: Option<FinishedLives>,
+    pub(crate) finished: Option<Finished<ClusterSeat<HostedNode>>>,
     pub(crate) roster: Roster,
 }
 
-/// A thread that serves connections.
-type Worker<T> = PromisedHandle<ServiceSeat<HostedNode>, ServesLivesPromise<T>>;
+impl Gathered<ClusterSeat<HostedNode>> for Left {
+    ghost adds = { λ before seat after. (after.roster ≡ before.roster) × IfSome after.finished (λ f. IsSomeAnd before.finished (λ g. f.seats.items ≡ g.seats.items ++ seat ∷ [])) };
+
+    fn add(self, seat: ClusterSeat<HostedNode>) -> Result<Left, AllocError>
+        ensures { IfOk result (λ left. (left.roster ≡ self.roster) × IfSome left.finished
+            (λ f. IsSomeAnd self.finished (λ g. f.seats.items ≡ g.seats.items ++ seat ∷ []))) }
+    {
+        let Left { finished, roster } = self;
+        let Some(finished) = finished else {
+            return Ok(Left {
+                finished: None,
+                roster,
+            });
+        };
+        let finished = Some(finished.add(seat)?);
+        Ok(Left { finished, roster })
+    }
+}
 
 // ---- workers
 
@@ -151,11 +139,19 @@ fn serve_resident<R: Wait + Clock, L, T: Moments, S: Site>(
         resident.life resident.tenant
         (nodes.old.nodes.desk.seat.now, moments.old) (nodes.new.nodes.desk.seat.now, moments.new) }
 {
-    let config = config_alone(together.alloc, nodes.config, resident.tenant)?;
+    let config = config_alone(together.shared.alloc, nodes.config, resident.tenant)?;
     let life = resident.life;
     nodes.turn_to(life.slot, life.number);
-    let stay = Stay::new(together.rt, together.residents, Some(life));
-    serve_watched(together.alloc, &config, line, bytes, stay, nodes, moments)
+    let stay = Stay::new(together.shared.rt, together.residents, Some(life));
+    serve_watched(
+        together.shared.alloc,
+        &config,
+        line,
+        bytes,
+        stay,
+        nodes,
+        moments,
+    )
 }
 
 // Refuses the greeting of a client that names no tenant.
@@ -172,9 +168,17 @@ fn refuse_stranger<R: Wait + Clock, L, T: Moments, S: Site>(
     ensures same { (nodes.new.nodes.desk.seat.now ≡ nodes.old.nodes.desk.seat.now)
         × (moments.new ≡ moments.old) }
 {
-    let config = config_of_none(together.alloc, nodes.config);
-    let stay = Stay::new(together.rt, together.residents, None);
-    serve_watched(together.alloc, &config, line, bytes, stay, nodes, moments)
+    let config = config_of_none(together.shared.alloc, nodes.config);
+    let stay = Stay::new(together.shared.rt, together.residents, None);
+    serve_watched(
+        together.shared.alloc,
+        &config,
+        line,
+        bytes,
+        stay,
+        nodes,
+        moments,
+    )
 }
 
 // Returns the tenant that a client's greeting names, in its life. The desk's seat then sees whose life it is.
@@ -198,7 +202,7 @@ fn resident_of<R: Wait, L, S: Site>(
     let desk = &mut nodes.nodes.desk;
     together
         .residents
-        .greet(together.rt, desk.cluster, desk.seat, token)
+        .greet(together.shared.rt, desk.cluster, desk.seat, token)
 }
 
 // Serves a client in the life of the tenant that it names. The tenant is looked up once its greeting is there.
@@ -218,7 +222,7 @@ fn serve_life<R: Wait + Clock, L, T: Moments, S: Site>(
     ensures serves { ServesInLife nodes.old.config.now nodes.old.nodes.desk.cluster.now T.Gives
         (nodes.old.nodes.desk.seat.now, moments.old) (nodes.new.nodes.desk.seat.now, moments.new) }
 {
-    let opened = open_line(together.alloc, line)?;
+    let opened = open_line(together.shared.alloc, line)?;
     let bytes = opened.bytes.as_slice();
     match resident_of(together, &opened, nodes) {
         Some(resident) => serve_resident(together, line, bytes, resident, nodes, moments),
@@ -244,18 +248,18 @@ fn serve_stream<R: Wait + Clock, L: Reports, T: Moments, S: Site>(
         (nodes.old.nodes.desk.seat.now, moments.old) (nodes.new.nodes.desk.seat.now, moments.new) }
 {
     let line = Line::new(
-        together.rt,
+        together.shared.rt,
         &accepted.stream,
-        together.stop,
-        together.options.idle,
+        together.shared.listening.stop,
+        together.shared.listening.options.idle,
     );
     let ended = serve_life(together, &line, nodes, moments);
     // (closing reads on, so what the client did until then is asked first)
     let course = line.course();
     line.close();
     conclude(
-        together.totals,
-        together.reports,
+        together.shared.totals,
+        together.shared.listening.reports,
         &accepted.peer,
         line.tally(),
         course,
@@ -280,106 +284,187 @@ fn serve_lives<R: Wait + Clock, L: Reports, T: Moments, S: Site>(
     ensures serves { ServesLives nodes.old.config.now nodes.old.nodes.desk.cluster.now T.Gives
         moments.old nodes.old.nodes.desk.seat.now nodes.new.nodes.desk.seat.now }
 {
-    for _ in together.rt.forever() {
-        let Ok(accepted) = streams.recv(together.rt) else {
+    for _ in together.shared.rt.forever() {
+        let Ok(accepted) = streams.recv(together.shared.rt) else {
             return;
         };
         serve_stream(together, nodes, &accepted, moments);
     }
 }
 
-// The thread of a worker.
-fn work<R: Wait + Clock, L: Reports, T: Moments + Copy, S: Site>(
-    together: Together<'_, R, L, S>,
-    mut seat: ServiceSeat<HostedNode>,
-    streams: &Receiver<Accepted, Global>,
-    mut moments: T,
-) -> ServiceSeat<HostedNode>
-    requires open { IsHostedFor together.config.now together.cluster.now }
-    requires seat { IsNewSeatOf together.cluster.now seat }
-    ensures done { HasSinceDone together.entry.cluster.now
-        (ServesLives together.entry.config.now together.entry.cluster.now T.Gives moments) result }
-    ensures serves { ServesLives together.entry.config.now together.entry.cluster.now T.Gives
-        moments seat result }
+/// A worker serves connections until none follows.
+#[derive_where(Clone, Copy; T)]
+struct Serves<'a, 'b, R, L, T, S: Site> {
+    together: Together<'a, R, L, S>,
+    streams: &'b Receiver<Accepted, Global>,
+    moments: T,
+}
+
+impl<R, L, T, S> Task<ClusterSeat<HostedNode>> for Serves<'_, '_, R, L, T, S>
+where
+    R: Wait + Clock,
+    L: Reports,
+    T: Moments + Copy,
+    S: Site,
 {
-    let mut nodes = LivingDesk {
-        config: together.config,
-        nodes: LifeDesk {
-            desk: HostedDesk::new(together.rt, together.cluster, &mut seat),
-            slot: 0,
-            life: 0,
-        },
-        notes: together.notes,
-        ahead: Ahead::new(together.alloc),
-    };
-    serve_lives(together, &mut nodes, streams, &mut moments);
-    seat
+    ghost is_ready = { λ it. IsHostedFor it.together.shared.config.now it.together.shared.cluster.now };
+
+    ghost is_new = { λ it seat. IsNewSeatOf it.together.shared.cluster.now seat };
+
+    ghost is_done = { λ it seat. HasSinceDone it.together.shared.cluster.now (ServesLives it.together.shared.config.now it.together.shared.cluster.now T.Gives it.moments) seat };
+
+    fn run(self, seat: ClusterSeat<HostedNode>) -> ClusterSeat<HostedNode>
+        requires ready { IsHostedFor self.together.shared.config.now
+            self.together.shared.cluster.now }
+        requires new { IsNewSeatOf self.together.shared.cluster.now seat }
+        ensures { HasSinceDone self.entry.together.shared.cluster.now
+            (ServesLives self.entry.together.shared.config.now
+            self.entry.together.shared.cluster.now T.Gives self.entry.moments) result }
+    {
+        let Serves {
+            together,
+            streams,
+            mut moments,
+        } = self;
+        let mut seat = ServiceSeat::of(seat);
+        let shared = together.shared;
+        let mut nodes = LivingDesk {
+            config: shared.config,
+            nodes: LifeDesk {
+                desk: HostedDesk::new(shared.rt, shared.cluster, &mut seat),
+                slot: 0,
+                life: 0,
+            },
+            notes: shared.notes,
+            ahead: Ahead::new(shared.alloc),
+        };
+        serve_lives(together, &mut nodes, streams, &mut moments);
+        seat.into_seat()
+    }
 }
 
 // ---- the threads that carry and collect
 
-// The thread that carries.
-fn carry<R: Wait + Clock, L, T: Moments + Copy, S: Site>(
-    together: Together<'_, R, L, S>,
-    mut seat: ServiceSeat<HostedNode>,
-    mut carrying: Carrying,
-    mut moments: T,
-) -> ServiceSeat<HostedNode>
-    requires open { IsHostedFor together.config.now together.cluster.now }
-    requires seat { IsNewSeatOf together.cluster.now seat }
-    ensures done { HasSinceDone together.entry.cluster.now
-        (CarriesLives together.entry.config.now together.entry.cluster.now) result }
-    ensures carries { CarriesLives together.entry.config.now
-        together.entry.cluster.now seat result }
-{
-    let mut nodes = LivingDesk {
-        config: together.config,
-        nodes: LifeDesk {
-            desk: HostedDesk::new(together.rt, together.cluster, &mut seat),
-            slot: 0,
-            life: 0,
-        },
-        notes: together.notes,
-        ahead: Ahead::new(together.alloc),
-    };
-    carry_lives(
-        &mut nodes,
-        &mut moments,
-        &mut carrying.streams,
-        &mut carrying.waiting,
-    );
-    seat
+/// The carrier carries until no stream follows.
+#[derive(Drop)]
+struct Carries<'a, R, L, T> {
+    shared: Shared<'a, R, L, HostedNode>,
+    carrying: Carrying,
+    moments: T,
 }
 
-// The thread that collects.
-fn collect<R: Wait + Clock, L, T: Moments + Copy, S: Site>(
-    together: Together<'_, R, L, S>,
-    mut seat: ServiceSeat<HostedNode>,
-    mut collecting: Collecting,
-    mut moments: T,
-) -> ServiceSeat<HostedNode>
-    requires open { IsHostedFor together.config.now together.cluster.now }
-    requires seat { IsNewSeatOf together.cluster.now seat }
-    ensures done { HasSinceDone together.entry.cluster.now
-        (CollectsLives together.entry.config.now together.entry.cluster.now) result }
-    ensures collects { CollectsLives together.entry.config.now
-        together.entry.cluster.now seat result }
-{
-    let mut nodes = LivingDesk {
-        config: together.config,
-        nodes: LifeDesk {
-            desk: HostedDesk::new(together.rt, together.cluster, &mut seat),
-            slot: 0,
-            life: 0,
-        },
-        notes: together.notes,
-        ahead: Ahead::new(together.alloc),
-    };
-    collect_lives(&mut nodes, &mut moments, &mut collecting);
-    seat
+impl<R: Wait + Clock, L, T: Moments + Copy> Task<ClusterSeat<HostedNode>> for Carries<'_, R, L, T> {
+    ghost is_ready = { λ it. IsHostedFor it.shared.config.now it.shared.cluster.now };
+
+    ghost is_new = { λ it seat. IsNewSeatOf it.shared.cluster.now seat };
+
+    ghost is_done = { λ it seat. HasSinceDone it.shared.cluster.now (CarriesLives it.shared.config.now it.shared.cluster.now) seat };
+
+    fn run(self, seat: ClusterSeat<HostedNode>) -> ClusterSeat<HostedNode>
+        requires ready { IsHostedFor self.shared.config.now self.shared.cluster.now }
+        requires new { IsNewSeatOf self.shared.cluster.now seat }
+        ensures { HasSinceDone self.entry.shared.cluster.now
+            (CarriesLives self.entry.shared.config.now self.entry.shared.cluster.now) result }
+    {
+        let Carries {
+            shared,
+            mut carrying,
+            mut moments,
+        } = self;
+        let mut seat = ServiceSeat::of(seat);
+        let mut nodes = LivingDesk {
+            config: shared.config,
+            nodes: LifeDesk {
+                desk: HostedDesk::new(shared.rt, shared.cluster, &mut seat),
+                slot: 0,
+                life: 0,
+            },
+            notes: shared.notes,
+            ahead: Ahead::new(shared.alloc),
+        };
+        carry_lives(
+            &mut nodes,
+            &mut moments,
+            &mut carrying.streams,
+            &mut carrying.waiting,
+        );
+        seat.into_seat()
+    }
+}
+
+/// The collector collects until no place follows.
+#[derive(Drop)]
+struct Collects<'a, R, L, T> {
+    shared: Shared<'a, R, L, HostedNode>,
+    collecting: Collecting,
+    moments: T,
+}
+
+impl<R: Wait + Clock, L, T: Moments + Copy> Task<ClusterSeat<HostedNode>>
+    for Collects<'_, R, L, T> {
+    ghost is_ready = { λ it. IsHostedFor it.shared.config.now it.shared.cluster.now };
+
+    ghost is_new = { λ it seat. IsNewSeatOf it.shared.cluster.now seat };
+
+    ghost is_done = { λ it seat. HasSinceDone it.shared.cluster.now (CollectsLives it.shared.config.now it.shared.cluster.now) seat };
+
+    fn run(self, seat: ClusterSeat<HostedNode>) -> ClusterSeat<HostedNode>
+        requires ready { IsHostedFor self.shared.config.now self.shared.cluster.now }
+        requires new { IsNewSeatOf self.shared.cluster.now seat }
+        ensures { HasSinceDone self.entry.shared.cluster.now
+            (CollectsLives self.entry.shared.config.now self.entry.shared.cluster.now) result }
+    {
+        let Collects {
+            shared,
+            mut collecting,
+            mut moments,
+        } = self;
+        let mut seat = ServiceSeat::of(seat);
+        let mut nodes = LivingDesk {
+            config: shared.config,
+            nodes: LifeDesk {
+                desk: HostedDesk::new(shared.rt, shared.cluster, &mut seat),
+                slot: 0,
+                life: 0,
+            },
+            notes: shared.notes,
+            ahead: Ahead::new(shared.alloc),
+        };
+        collect_lives(&mut nodes, &mut moments, &mut collecting);
+        seat.into_seat()
+    }
 }
 
 // ---- the host
+
+/// What the host's thread gives back: its seat, and the tenants that are open.
+#[derive(Drop)]
+struct Followed {
+    seat: ClusterSeat<HostedNode>,
+    roster: Roster,
+}
+
+/// The host's promise: it has since followed lines.
+#[derive(Drop)]
+struct FollowsPromise {
+    cluster: Snapshot<Cluster<HostedNode>>,
+    roster: Snapshot<Roster>,
+}
+
+impl Promise<Followed> for FollowsPromise {
+    ghost kept_by = { λ p followed. HasSinceDone p.cluster.value (FollowsLines p.cluster.value p.roster.value followed.roster) followed.seat };
+}
+
+impl FollowsPromise {
+    fn new(cluster: &Cluster<HostedNode>, roster: &Roster) -> FollowsPromise
+        ensures { (result.cluster.value ≡ cluster.now) × (result.roster.value ≡ roster.now) }
+    {
+        FollowsPromise {
+            cluster: Snapshot::of(cluster),
+            roster: Snapshot::of(roster),
+        }
+    }
+}
 
 // Follows the host's lines at a desk until none follows.
 fn follow_lines<R: Wait + Clock, L: HostReports, S: Site>(
@@ -396,13 +481,13 @@ fn follow_lines<R: Wait + Clock, L: HostReports, S: Site>(
     ensures follows { FollowsLines host.old.desk.cluster.now host.old.roster.now host.new.roster.now
         host.old.desk.seat.now host.new.desk.seat.now }
 {
-    for _ in together.rt.forever() {
-        let goes_on = together.lines.take(together.rt, &mut taken.lines);
+    for _ in together.shared.rt.forever() {
+        let goes_on = together.lines.take(together.shared.rt, &mut taken.lines);
         follow_each(
-            together.rt,
+            together.shared.rt,
             together.residents,
-            together.stop,
-            together.reports,
+            together.shared.listening.stop,
+            together.shared.listening.reports,
             host,
             &mut taken.replies,
             taken.lines.as_slice(),
@@ -419,124 +504,40 @@ fn follow_lines<R: Wait + Clock, L: HostReports, S: Site>(
 #[tactic(auto, using(crate::proofs::Admitted::some_hosted))]
 fn follow_host<R: Wait + Clock, L: HostReports, T: Copy, S: Site>(
     together: Together<'_, R, L, S>,
-    mut seat: ServiceSeat<HostedNode>,
+    seat: ClusterSeat<HostedNode>,
     mut roster: Roster,
     mut taken: Batch,
     _moments: T,
 ) -> Followed
-    requires open { IsHostedFor together.config.now together.cluster.now }
-    requires seat { IsNewSeatOf together.cluster.now seat }
-    ensures done { HasSinceDone together.entry.cluster.now
-        (FollowsLines together.entry.cluster.now roster result.roster) result.seat }
-    ensures follows { FollowsLines together.entry.cluster.now roster result.roster
+    requires open { IsHostedFor together.shared.config.now together.shared.cluster.now }
+    requires seat { IsNewSeatOf together.shared.cluster.now seat }
+    ensures done { HasSinceDone together.entry.shared.cluster.now
+        (FollowsLines together.entry.shared.cluster.now roster result.roster) result.seat }
+    ensures follows { FollowsLines together.entry.shared.cluster.now roster result.roster
         seat result.seat }
 {
+    let mut seat = ServiceSeat::of(seat);
     let mut host = TenantHost {
-        desk: HostedDesk::new(together.rt, together.cluster, &mut seat),
+        desk: HostedDesk::new(together.shared.rt, together.shared.cluster, &mut seat),
         roster: &mut roster,
     };
     follow_lines(together, &mut host, &mut taken);
-    Followed { seat, roster }
+    Followed {
+        seat: seat.into_seat(),
+        roster,
+    }
 }
 
 // ---- all threads
 
-// Waits for these workers, and adds their seats.
-fn join_workers<R: Threads, T: Moments>(
-    rt: &R,
-    config: &Config,
-    cluster: &Cluster<HostedNode>,
-    moments: &T,
-    workers: Vec<Worker<T>>,
-    mut seats: Vec<ClusterSeat<HostedNode>>,
-) -> Result<Vec<ClusterSeat<HostedNode>>, AllocError>
-    requires empty { seats.items ≡ [] }
-    requires workers { AllByRecursion (λ worker.
-        (worker.promise.config.value ≡ config.now) × (worker.promise.cluster.value ≡ cluster.now)
-        × (worker.promise.moments.value ≡ moments.now)) workers.items }
-    ensures { IfOk result (λ seats. AreOfLifeWorkers T.Gives moments.now config.now cluster.now
-        (length workers.items) seats.items) }
-{
-    for worker in workers {
-        seats.push(worker.join(rt).into_seat())?;
-    }
-    Ok(seats)
-}
-
-// Accepts connections and hands them to workers, which serve them until none follows.
-fn accept_and_serve<R, L, T, S>(
-    together: Together<'_, R, L, S>,
-    seats: Vec<ServiceSeat<HostedNode>>,
-    moments: T,
-) -> Result<Option<FinishedLives>, AllocError>
-where
-    R: Threads + Wait + Clock + Sync,
-    L: Reports + Sync,
-    T: Moments + Copy + Send,
-    S: Site + Copy + Send,
-    requires open { IsHostedFor together.config.now together.cluster.now }
-    requires seats { AllByRecursion (λ seat. IsNewSeatOf together.cluster.now seat) seats.items }
-    ensures { IfOk result (λ r. IfSome r (λ f. AreOfLifeWorkers T.Gives moments
-        together.entry.config.now together.entry.cluster.now (length seats.items) f.seats.items)) }
-{
-    let count = seats.len();
-    let (to, from) = crossbeam_channel::bounded(together.alloc, count)?;
-    let streams = &from;
-    thread::scope(
-        thread::scope_env(),
-        together.rt,
-        move |scope| -> Result<Option<FinishedLives>, AllocError>
-            requires { IsSync R.row × IsSync L.row × IsSend T.row × IsSend S.row
-                × IsHostedFor together.config.now together.cluster.now
-                × AllByRecursion (λ seat. IsNewSeatOf together.cluster.now seat) seats.items
-                × (length seats.items ≡ count) }
-            ensures { IfOk result (λ r. IfSome r (λ f. AreOfLifeWorkers T.Gives moments
-                together.entry.config.now together.entry.cluster.now count f.seats.items)) }
-        {
-            let mut workers: Vec<Worker<T>> = Vec::with_capacity(together.alloc, count)?;
-            let ended = Vec::with_capacity(together.alloc, count.saturating_add(3))?;
-            for seat in seats {
-                let Ok(worker) = scope.spawn_with(
-                    ServesLivesPromise::new(together.config, together.cluster, &moments),
-                    move || -> ServiceSeat<HostedNode>
-                        requires { IsHostedFor together.config.now together.cluster.now
-                            × IsNewSeatOf together.cluster.now seat }
-                        ensures { HasSinceDone together.entry.cluster.now
-                            (ServesLives together.entry.config.now together.entry.cluster.now
-                            T.Gives moments) result }
-                    { work(together, seat, streams, moments) },
-                ) else {
-                    return Ok(None);
-                };
-                workers.push(worker)?;
-            }
-            let end = accept_each(
-                together.rt,
-                together.listener,
-                together.options.connections,
-                to,
-                together.stop,
-                grace_of(together.options.idle),
-                together.reports,
-            );
-            let seats = join_workers(
-                together.rt,
-                together.config,
-                together.cluster,
-                &moments,
-                workers,
-                ended,
-            )?;
-            Ok(Some(FinishedLives { end, seats }))
-        },
-    )
-}
-
-// Does the same beside a thread that follows the host's lines. Returns none if that thread can't be started.
+// Accepts connections and has them served, beside a thread that follows the host's lines. Returns none if that thread
+// can't be started.
 fn serve_and_host<R, L, T, S>(
     together: Together<'_, R, L, S>,
-    seats: Vec<ServiceSeat<HostedNode>>,
-    seat: ServiceSeat<HostedNode>,
+    to: Sender<Accepted, Global>,
+    streams: &Receiver<Accepted, Global>,
+    seats: Vec<ClusterSeat<HostedNode>>,
+    seat: ClusterSeat<HostedNode>,
     roster: Roster,
     moments: T,
 ) -> Result<Option<Left>, AllocError>
@@ -545,119 +546,60 @@ where
     L: Reports + HostReports + Sync,
     T: Moments + Copy + Send,
     S: Site + Copy + Send,
-    requires open { IsHostedFor together.config.now together.cluster.now }
-    requires seats { AllByRecursion (λ seat. IsNewSeatOf together.cluster.now seat) seats.items }
-    requires host { IsNewSeatOf together.cluster.now seat }
-    ensures { IfOk result (λ r. IfSome r
-        (λ left. IfSome left.finished (λ f. AreOfHosts T.Gives moments together.entry.config.now
-        together.entry.cluster.now (length seats.items) roster left.roster f.seats.items))) }
+    requires open { IsHostedFor together.shared.config.now together.shared.cluster.now }
+    requires seats { AllByRecursion (λ seat. IsNewSeatOf together.shared.cluster.now seat)
+        seats.items }
+    requires host { IsNewSeatOf together.shared.cluster.now seat }
+    ensures { IfOk result (λ r. IfSome r (λ left. IfSome left.finished (λ f.
+        AreOfHosts T.Gives moments together.entry.shared.config.now
+        together.entry.shared.cluster.now (length seats.items) roster left.roster f.seats.items))) }
 {
-    let taken = together.lines.room(together.alloc)?;
+    let taken = together.lines.room(together.shared.alloc)?;
     thread::scope(
         thread::scope_env(),
-        together.rt,
+        together.shared.rt,
         move |scope| -> Result<Option<Left>, AllocError>
             requires { IsSync R.row × IsSync L.row × IsSend T.row × IsSend S.row
-                × IsHostedFor together.config.now together.cluster.now
-                × AllByRecursion (λ seat. IsNewSeatOf together.cluster.now seat) seats.items
-                × IsNewSeatOf together.cluster.now seat }
+                × IsHostedFor together.shared.config.now together.shared.cluster.now
+                × AllByRecursion (λ seat. IsNewSeatOf together.shared.cluster.now seat) seats.items
+                × IsNewSeatOf together.shared.cluster.now seat }
             ensures { IfOk result (λ r. IfSome r (λ left. IfSome left.finished (λ f.
-                AreOfHosts T.Gives moments together.entry.config.now together.entry.cluster.now
+                AreOfHosts T.Gives moments together.entry.shared.config.now
+                together.entry.shared.cluster.now
                 (length seats.items) roster left.roster f.seats.items))) }
         {
             let Ok(hosts) = scope.spawn_with(
-                FollowsPromise::new(together.cluster, &roster),
+                FollowsPromise::new(together.shared.cluster, &roster),
                 move || -> Followed
-                    requires { IsHostedFor together.config.now together.cluster.now
-                        × IsNewSeatOf together.cluster.now seat }
-                    ensures { HasSinceDone together.entry.cluster.now
-                        (FollowsLines together.entry.cluster.now roster result.roster) result.seat }
+                    requires { IsHostedFor together.shared.config.now together.shared.cluster.now
+                        × IsNewSeatOf together.shared.cluster.now seat }
+                    ensures { HasSinceDone together.entry.shared.cluster.now
+                        (FollowsLines together.entry.shared.cluster.now roster result.roster)
+                        result.seat }
                 { follow_host(together, seat, roster, taken, moments) },
             ) else {
                 return Ok(None);
             };
-            let served = accept_and_serve(together, seats, moments);
-            together.lines.end(together.rt);
-            let Followed { seat, roster } = hosts.join(together.rt);
-            let Some(mut finished) = served? else {
-                return Ok(Some(Left {
-                    finished: None,
-                    roster,
-                }));
+            let task = Serves {
+                together,
+                streams,
+                moments,
             };
-            finished.seats.push(seat.into_seat())?;
-            Ok(Some(Left {
-                finished: Some(finished),
+            let served = accept_and_serve(
+                together.shared.rt,
+                together.shared.alloc,
+                together.shared.listening,
+                to,
+                seats,
+                task,
+            );
+            together.lines.end(together.shared.rt);
+            let Followed { seat, roster } = hosts.join(together.shared.rt);
+            let left = Left {
+                finished: served?,
                 roster,
-            }))
-        },
-    )
-}
-
-// Does the same beside a thread that carries.
-fn serve_and_carry<R, L, T, S>(
-    together: Together<'_, R, L, S>,
-    seats: Vec<ServiceSeat<HostedNode>>,
-    host: ServiceSeat<HostedNode>,
-    carrier: ServiceSeat<HostedNode>,
-    roster: Roster,
-    carrying: Carrying,
-    moments: T,
-) -> Result<Option<Left>, AllocError>
-where
-    R: Threads + Wait + Clock + Sync,
-    L: Reports + HostReports + Sync,
-    T: Moments + Copy + Send,
-    S: Site + Copy + Send,
-    requires open { IsHostedFor together.config.now together.cluster.now }
-    requires seats { AllByRecursion (λ seat. IsNewSeatOf together.cluster.now seat) seats.items }
-    requires host { IsNewSeatOf together.cluster.now host }
-    requires carrier { IsNewSeatOf together.cluster.now carrier }
-    ensures { IfOk result (λ r. IfSome r (λ left.
-        IfSome left.finished (λ f. AreOfLifeServers T.Gives moments together.entry.config.now
-        together.entry.cluster.now (length seats.items) roster left.roster f.seats.items))) }
-{
-    thread::scope(
-        thread::scope_env(),
-        together.rt,
-        move |scope| -> Result<Option<Left>, AllocError>
-            requires { IsSync R.row × IsSync L.row × IsSend T.row × IsSend S.row
-                × IsHostedFor together.config.now together.cluster.now
-                × AllByRecursion (λ seat. IsNewSeatOf together.cluster.now seat) seats.items
-                × IsNewSeatOf together.cluster.now host × IsNewSeatOf together.cluster.now carrier }
-            ensures { IfOk result
-                (λ r. IfSome r (λ left. IfSome left.finished (λ f. AreOfLifeServers T.Gives moments
-                together.entry.config.now together.entry.cluster.now
-                (length seats.items) roster left.roster f.seats.items))) }
-        {
-            let Ok(carries) = scope.spawn_with(
-                CarriesLivesPromise::new(together.config, together.cluster),
-                move || -> ServiceSeat<HostedNode>
-                    requires { IsHostedFor together.config.now together.cluster.now
-                        × IsNewSeatOf together.cluster.now carrier }
-                    ensures { HasSinceDone together.entry.cluster.now
-                        (CarriesLives together.entry.config.now together.entry.cluster.now) result }
-                { carry(together, carrier, carrying, moments) },
-            ) else {
-                return Ok(None);
             };
-            let left = serve_and_host(together, seats, host, roster, moments);
-            together.notes.sent.end(together.rt);
-            let carrier = carries.join(together.rt);
-            let Some(Left { finished, roster }) = left? else {
-                return Ok(None);
-            };
-            let Some(mut finished) = finished else {
-                return Ok(Some(Left {
-                    finished: None,
-                    roster,
-                }));
-            };
-            finished.seats.push(carrier.into_seat())?;
-            Ok(Some(Left {
-                finished: Some(finished),
-                roster,
-            }))
+            Ok(Some(left.add(seat)?))
         },
     )
 }
@@ -666,7 +608,8 @@ where
 /// none if one of these or the host's can't be started.
 pub(crate) fn serve_hosted<R, L, T, S>(
     together: Together<'_, R, L, S>,
-    crew: HostedCrew,
+    crew: Crew<HostedNode>,
+    host: ClusterSeat<HostedNode>,
     helpers: Helpers,
     roster: Roster,
     moments: T,
@@ -676,19 +619,19 @@ where
     L: Reports + HostReports + Sync,
     T: Moments + Copy + Send,
     S: Site + Copy + Send,
-    requires open { IsHostedFor together.config.now together.cluster.now }
-    requires workers { AllByRecursion (λ seat. IsNewSeatOf together.cluster.now seat)
+    requires open { IsHostedFor together.shared.config.now together.shared.cluster.now }
+    requires workers { AllByRecursion (λ seat. IsNewSeatOf together.shared.cluster.now seat)
         crew.workers.items }
-    requires host { IsNewSeatOf together.cluster.now crew.host }
-    requires carrier { IsNewSeatOf together.cluster.now crew.carrier }
-    requires collector { IsNewSeatOf together.cluster.now crew.collector }
-    ensures { IfOk result (λ r. IfSome r
-        (λ left. IfSome left.finished (λ f. AreOfLifeCrew T.Gives moments together.entry.config.now
-        together.entry.cluster.now (length crew.workers.items) roster left.roster f.seats.items))) }
+    requires carrier { IsNewSeatOf together.shared.cluster.now crew.carrier }
+    requires collector { IsNewSeatOf together.shared.cluster.now crew.collector }
+    requires host { IsNewSeatOf together.shared.cluster.now host }
+    ensures { IfOk result (λ r. IfSome r (λ left. IfSome left.finished (λ f.
+        AreOfLifeCrew T.Gives moments together.entry.shared.config.now
+        together.entry.shared.cluster.now (length crew.workers.items) roster left.roster
+        f.seats.items))) }
 {
-    let HostedCrew {
+    let Crew {
         workers,
-        host,
         carrier,
         collector,
     } = crew;
@@ -696,48 +639,39 @@ where
         carrying,
         collecting,
     } = helpers;
-    thread::scope(
-        thread::scope_env(),
-        together.rt,
-        move |scope| -> Result<Option<Left>, AllocError>
-            requires { IsSync R.row × IsSync L.row × IsSend T.row × IsSend S.row
-                × IsHostedFor together.config.now together.cluster.now
-                × AllByRecursion (λ seat. IsNewSeatOf together.cluster.now seat) workers.items
-                × IsNewSeatOf together.cluster.now host × IsNewSeatOf together.cluster.now carrier
-                × IsNewSeatOf together.cluster.now collector }
-            ensures { IfOk result (λ r. IfSome r (λ left. IfSome left.finished (λ f.
-                AreOfLifeCrew T.Gives moments together.entry.config.now together.entry.cluster.now
-                (length workers.items) roster left.roster f.seats.items))) }
-        {
-            let Ok(collects) = scope.spawn_with(
-                CollectsLivesPromise::new(together.config, together.cluster),
-                move || -> ServiceSeat<HostedNode>
-                    requires { IsHostedFor together.config.now together.cluster.now
-                        × IsNewSeatOf together.cluster.now collector }
-                    ensures { HasSinceDone together.entry.cluster.now
-                        (CollectsLives together.entry.config.now together.entry.cluster.now)
-                        result }
-                { collect(together, collector, collecting, moments) },
-            ) else {
-                return Ok(None);
-            };
-            let left = serve_and_carry(together, workers, host, carrier, roster, carrying, moments);
-            together.notes.grown.end(together.rt);
-            let collector = collects.join(together.rt);
-            let Some(Left { finished, roster }) = left? else {
-                return Ok(None);
-            };
-            let Some(mut finished) = finished else {
-                return Ok(Some(Left {
-                    finished: None,
-                    roster,
-                }));
-            };
-            finished.seats.push(collector.into_seat())?;
-            Ok(Some(Left {
-                finished: Some(finished),
-                roster,
-            }))
+    let shared = together.shared;
+    let (to, from) = crossbeam_channel::bounded(shared.alloc, workers.len())?;
+    let streams = &from;
+    let carrier = Job {
+        seat: carrier,
+        task: Carries {
+            shared,
+            carrying,
+            moments,
         },
+    };
+    let collector = Job {
+        seat: collector,
+        task: Collects {
+            shared,
+            collecting,
+            moments,
+        },
+    };
+    serve_helped(
+        shared.rt,
+        shared.notes,
+        carrier,
+        collector,
+        move || -> Result<Option<Left>, AllocError>
+            requires { IsSync R.row × IsSync L.row × IsSend T.row × IsSend S.row
+                × IsHostedFor together.shared.config.now together.shared.cluster.now
+                × AllByRecursion (λ seat. IsNewSeatOf together.shared.cluster.now seat)
+                workers.items × IsNewSeatOf together.shared.cluster.now host }
+            ensures { IfOk result (λ r. IfSome r (λ left. IfSome left.finished (λ f.
+                AreOfHosts T.Gives moments together.entry.shared.config.now
+                together.entry.shared.cluster.now
+                (length workers.items) roster left.roster f.seats.items))) }
+        { serve_and_host(together, to, streams, workers, host, roster, moments) },
     )
 }

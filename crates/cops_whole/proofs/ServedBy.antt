@@ -23,9 +23,10 @@ use Rattle.cops_node.specs.Clusters.{new_shared}
 use Rattle.cops_node.specs.Parts.{Shared, IsMachineTurn}
 use Rattle.cops_service.specs.Calling.{CollectAll}
 use Rattle.cops_service.specs.Carried.{DeliverAll, carried_stream}
-use Rattle.cops_service.specs.Crews.{AreServedBy, CarriesStreams, CollectsPlaces, HasJustDone, ServesClients}
+use Rattle.cops_service.specs.Crews.{AreServedBy, CarriesStreams, CollectsPlaces, ServesClients}
 use Rattle.cops_service.specs.Desks.{IsDeskCall, NodeSeat}
 use Rattle.cops_service.specs.Gates.{Gates, HasNoTurn, openings}
+use Rattle.cops_service.specs.SeatsDone.{HasSinceDone}
 use Rattle.cops_service.specs.Slots.{NodeLog}
 use Rattle.cops_service.proofs.Desks.{read_at}
 use Rattle.cops_history.specs.Turns.{Turn as CallTurn}
@@ -93,7 +94,7 @@ module _ (config : Config) (cluster : Gates Shared) where
     no_turn : HasNoTurn first
     calls : Calls first seat
 
-  acted : (Does : NodeSeat → NodeSeat → Type 0) → ((first last : NodeSeat) → Does first last → Calls first last) → (seat : NodeSeat) → HasJustDone cluster Does seat → Acted seat
+  acted : (Does : NodeSeat → NodeSeat → Type 0) → ((first last : NodeSeat) → Does first last → Calls first last) → (seat : NodeSeat) → HasSinceDone cluster Does seat → Acted seat
   acted Does as_calls seat done = record { first = done.first; no_turn = done.no_turn; calls = as_calls done.first seat done.does }
 
   -- ---- its calls were turns
@@ -184,7 +185,7 @@ module _ {M : Type 0} (Gives : M → ℕ → M → Type 0) (moments : M) (config
       crew.are ∙ ap (λ s. s ++ crew.collector ∷ []) crew.serve.are ∙ append_assoc workers_seats (crew.serve.carrier ∷ []) (crew.collector ∷ [])
 
   abbrev DidServe : NodeSeat → Type 0
-  DidServe = HasJustDone cluster (ServesClients config cluster Gives moments)
+  DidServe = HasSinceDone cluster (ServesClients config cluster Gives moments)
 
   by_worker : (seat : NodeSeat) → DidServe seat → Acted config cluster seat
   by_worker = acted config cluster (ServesClients config cluster Gives moments) (λ first last h. serves config cluster Gives h.0 first last moments h.1 some_shards h.2)

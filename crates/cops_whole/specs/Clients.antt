@@ -12,9 +12,10 @@ use Rattle.cops_history.specs.Commands.{Opens}
 use Rattle.cops_history.specs.History.{Told}
 use Rattle.cops_served.specs.Conversations.{AnswersEach}
 use Rattle.cops_service.specs.Conversing.{ConverseAll, Converses}
-use Rattle.cops_service.specs.Crews.{HasJustDone, ServesClients}
+use Rattle.cops_service.specs.Crews.{ServesClients}
 use Rattle.cops_service.specs.Desks.{IsDeskCall, NodeSeat}
 use Rattle.cops_service.specs.Gates.{Gates}
+use Rattle.cops_service.specs.SeatsDone.{HasSinceDone}
 use Rattle.cops_wire.specs.declared.messages.Message.{Message}
 use Rattle.cops_whole.specs.Seats.{SlotActor}
 
@@ -53,10 +54,10 @@ AreSessionsOf (c ∷ conversations) (a ∷ actors) = IsSessionOf c a × AreSessi
 
 module _ {M : Type 0} (Gives : M → ℕ → M → Type 0) (moments : M) (config : Config) (cluster : Gates Shared) where
   -- what a worker's seat did
-  abbrev pub conversations_by : (seat : NodeSeat) → HasJustDone cluster (ServesClients config cluster Gives moments) seat → List Conversation
+  abbrev pub conversations_by : (seat : NodeSeat) → HasSinceDone cluster (ServesClients config cluster Gives moments) seat → List Conversation
   conversations_by seat done = conversations_in (IsDeskCall cluster) Gives config done.does.0 done.first seat moments done.does.1 done.does.2
 
   -- the actors of each worker's seat, by its number, are the sessions of its conversations
-  abbrev pub AnswerClients : (ℕ → List SlotActor) → (seats : List NodeSeat) → AllByRecursion (HasJustDone cluster (ServesClients config cluster Gives moments)) seats → Type 0
+  abbrev pub AnswerClients : (ℕ → List SlotActor) → (seats : List NodeSeat) → AllByRecursion (HasSinceDone cluster (ServesClients config cluster Gives moments)) seats → Type 0
   AnswerClients actors [] all = Unit {0}
   AnswerClients actors (seat ∷ seats) all = AreSessionsOf (conversations_by seat all.0) (actors seat.number) × AnswerClients actors seats all.1

@@ -1,4 +1,4 @@
-use Rattle.cops_service.proofs.host_threads.fn.accept_and_serve.scope+FnOnce.call_once.Goals as goal
+use Rattle.cops_service.proofs.tasks.fn.accept_and_serve.scope+FnOnce.call_once.Goals as goal
 
 -- what the threads' bounds ask, and then what the closure asks
 pub scope-requires : goal.scope-requires

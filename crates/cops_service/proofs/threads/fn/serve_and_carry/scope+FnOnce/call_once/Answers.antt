@@ -1,5 +1,0 @@
-use Rattle.cops_service.proofs.threads.fn.serve_and_carry.scope+FnOnce.call_once.Goals as goal
-
--- what the threads' bounds ask, and then what the closure asks
-pub scope-requires : goal.scope-requires
-scope-requires g c = let asked = c.requires.1.1.1 in (asked.1.0, (asked.1.1, (asked.1.2, asked.0)))
