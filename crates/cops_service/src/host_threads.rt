@@ -1,4 +1,4 @@
-//! The threads of a service whose tenants come and go.
+//! What the threads of a service whose tenants come and go do, and the thread that follows its host.
 ghost use Rattle.std.specs.Prelude.{◌≡◌, ◌<◌, ◌⊎◌, ◌∷◌, ◌++◌, ⊤, [], length, IfOk, IfSome, IsSomeAnd};
 ghost use Rattle.std.specs.List.{AllByRecursion};
 ghost use Rattle.std.specs.Thread.{IsSend, IsSync};

@@ -1,4 +1,4 @@
-//! The threads of a service.
+//! What the threads of a service whose tenants are fixed do.
 ghost use Rattle.std.specs.Prelude.{◌≡◌, ℕ, length, IfOk, IfSome, IsTrue};
 ghost use Rattle.std.specs.List.{AllByRecursion};
 ghost use Rattle.std.specs.Thread.{IsSend, IsSync};
