@@ -58,7 +58,11 @@ _Reply = TypeVar("_Reply", bound=Message)
 
 
 def _bytes(text: str | bytes) -> bytes:
-    return text.encode() if isinstance(text, str) else bytes(text)
+    if isinstance(text, str):
+        return text.encode()
+    if isinstance(text, (bytes, bytearray, memoryview)):
+        return bytes(text)
+    raise TypeError(f"text or bytes are wanted, not {type(text).__name__}")
 
 
 def connect(

@@ -16,7 +16,7 @@ class ConnectionEnded(CopsError):
 
 
 class Fault(CopsError):
-    """A refusal by the store: nothing was changed, and the connection goes on unless the class says otherwise."""
+    """A refusal by the store: nothing was stored, and the connection goes on unless the class says otherwise."""
 
     #: The number on the wire; `E07` is the text of 7.
     number: int
@@ -51,7 +51,7 @@ class Syntax(Fault):
 class UnknownTenant(Fault):
     """No tenant has that token.
 
-    The server ends the connection.
+    After a greeting the tenant was closed since, and the connection goes on. If a greeting is refused, the server ends it.
     """
 
 

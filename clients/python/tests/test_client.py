@@ -55,6 +55,14 @@ class Contexts(unittest.TestCase):
                 self.assertEqual((context.history, context.past), ([], {}))
                 self.assertEqual(len(context.get("x")), 1)
 
+    def test_a_value_is_text_or_bytes(self):
+        with Scripted(CREATE, PUT) as connection:
+            context = connection.context()
+            for value in (5, None, [49, 48]):
+                with self.assertRaises(TypeError):
+                    context.put("x", value)
+            self.assertEqual(context.put(memoryview(b"x"), bytearray(b"10")), cops_client.Stored(b"x", Version(1, 0)))
+
     def test_a_refused_context_is_none(self):
         with Scripted(("00000001 02", "00000002 ff 08")) as connection:
             with self.assertRaises(cops_client.TooManyContexts):
