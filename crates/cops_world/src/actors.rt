@@ -137,6 +137,7 @@ fn delete(session: &mut Session, number: u64) -> Reply
     }
 }
 
+#[inline(always)]
 fn begin_put(
     session: &mut Session,
     number: u64,
@@ -160,6 +161,7 @@ fn begin_put(
     }
 }
 
+#[inline(always)]
 fn begin_get(session: &mut Session, number: u64, keys: &Keys) -> Result<Reply, AllocError>
     ensures own { (config : TenantConfig) (solo : SoloSession) →
         SessionStandsFor config session.old solo →
@@ -207,6 +209,7 @@ fn show(alloc: Global, session: &Session, number: u64) -> Result<Reply, AllocErr
 }
 
 /// Carries out a session command. Fails with `AllocError` if memory runs out, and changes nothing then.
+#[inline(always)]
 fn act_in(alloc: Global, session: &mut Session, deed: Deed) -> Result<Reply, AllocError>
     ensures own { (config : TenantConfig) (solo : SoloSession) →
         SessionStandsFor config session.old solo →
@@ -324,6 +327,7 @@ fn step_carrier<N: Nodes>(
 impl Actor {
     /// Does what it is asked to do, if it is a session. Fails with `AllocError` if memory runs out: then
     /// nothing changed, and what was asked isn't refused otherwise.
+    #[inline(always)]
     pub(crate) fn act(&mut self, alloc: Global, deed: Deed) -> Result<Reply, AllocError>
         ensures own { (config : TenantConfig) (solo : Solo) → ActorStandsFor config self.old solo →
             HasDone config (actor_does config deed solo) result self.new }
@@ -366,7 +370,9 @@ impl Actor {
 
     /// Takes a step at a timestamp, for the tenant of a slot. If memory runs out, a session's request or
     /// the carrier has ended.
-    #[inline(never)]
+    ///
+    /// It is inlined: a reply is large, and would be copied.
+    #[inline(always)]
     pub(crate) fn step<N: Nodes>(
         &mut self,
         nodes: &mut N,

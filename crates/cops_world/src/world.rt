@@ -160,6 +160,9 @@ fn reply_of_collect(reply: NodeReply) -> Reply
 
 impl World {
     /// Lets a session of a tenant carry out a command.
+    ///
+    /// It is inlined: a command is large, and would be copied.
+    #[inline(always)]
     fn ask(&mut self, slot: u64, name: &Name, deed: Deed) -> Result<Reply, AllocError>
         ensures moves { Moves AnyReply (λ config. deed_step config name.now deed)
             (world_of self.old) slot result (world_of self.new) }
@@ -422,6 +425,7 @@ impl World {
 
     /// Takes steps of an actor at one timestamp until it has answered, at most `more` after the first. It
     /// can have ended only if it has answered: an answer that is kept meanwhile is copied.
+    #[inline(never)]
     fn steps(
         &mut self,
         slot: u64,
@@ -505,6 +509,7 @@ impl World {
     }
 
     /// Begins a put of a session, if the key and the value are valid.
+    #[inline(never)]
     fn put(
         &mut self,
         slot: u64,
@@ -550,6 +555,7 @@ impl World {
     }
 
     /// Begins a get transaction of a session, if there are keys and each is valid.
+    #[inline(never)]
     fn get(
         &mut self,
         slot: u64,
@@ -737,8 +743,8 @@ impl Tenancy for World {
         World::tenants(self)
     }
 
-    /// Makes the answer here: each function between would copy it.
-    #[inline(never)]
+    /// It is inlined, and what it calls isn't: each function between would copy the answer.
+    #[inline(always)]
     fn act(&mut self, slot: u64, act: &Act) -> Result<Reply, AllocError>
         ensures moves { Moves (TellsExactly act.now) (λ config. cluster_step config act.now)
             (world_of self.old) slot result (world_of self.new) }
