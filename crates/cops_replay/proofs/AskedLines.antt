@@ -1,9 +1,5 @@
 -- What a record line says before the reply, and the text of the reply.
-use Rattle.std.proofs.Common.{◌≡◌, ℕ, Bool, false, List, [], ◌∷◌, refl, sym, subst, ap, ◌∙◌, arith, IsTrue, ◌↔◌, Option, Some, None}
-use Rattle.cops_replay.proofs.Names.{AllByRecursion, join_with_byte, bytes_eq, nat_tests, TenantConfig, parts_at, space, spaced, Lacks, bytes_from_test, parts_back, parts_joined, same_bytes, same_value, NodeReply, SoloNode, Asked, Record, read_asked, read_reply, record_told, record_with, Read, then_read, version_in, has_form, is_reply, reply_words, Agrees, IsLineReplayed, IsReplied, Lone}
-use Rattle.std.specs.Option.{option_map}
-use Rattle.cops_model.specs.declared.calls.NodeReply.TheVariants.{Refused}
-use Rattle.cops_replay.specs.RecordLines.{reply_told, whole, done_with}
+use Rattle.cops_replay.proofs.Names.{◌≡◌, ℕ, Bool, false, List, [], ◌∷◌, refl, sym, subst, ap, ◌∙◌, arith, IsTrue, ◌↔◌, Option, Some, None, AllByRecursion, join_with_byte, bytes_eq, nat_tests, TenantConfig, parts_at, space, spaced, Lacks, bytes_from_test, parts_back, parts_joined, same_bytes, same_value, NodeReply, SoloNode, Asked, Record, read_asked, read_reply, record_told, record_with, Read, then_read, version_in, has_form, is_reply, reply_words, Agrees, IsLineReplayed, IsReplied, Lone, option_map, Refused, reply_told, whole, done_with}
 use Rattle.cops_replay.proofs.LinesBack.{reply_back, reply_free}
 use Rattle.cops_replay.proofs.LinesSpelled.{reply_is}
 

@@ -1,9 +1,6 @@
 -- Heads of files of either layout, over lines as they are cut.
-use Rattle.std.proofs.Common.{◌≡◌, ℕ, ◌+◌, ◌<◌, ◌≤◌, ◌^◌, Bool, true, false, ◌&&◌, nat_eq, cond, List, [], ◌∷◌, ◌++◌, length, take, refl, sym, subst, ap, ◌∙◌, length-append, length-take, true≢false, arith, Option, Some, None, nat_lt, IsTrue}
-use Rattle.cops_replay.proofs.Names.{bytes_eq, nat_tests, take_all, AllByRecursion, Config, Tenant, counted, Front, AtStart, Within, Begun, HeadReading, Whole, BadAt, is_begun, may_join, reading_from, is_distinct, cut_line, last_old_clock, old_front_after, old_reading_from, last_clock, tenant_fits, front_after-short, both, bytes_from_test, AreNamed, slot_of_name, Every-append, found_at, short_name, Layout, Today, Early, layout_line, front_by, tells_layout, layout_of, longest_record}
+use Rattle.cops_replay.proofs.Names.{◌≡◌, ℕ, ◌+◌, ◌<◌, ◌≤◌, ◌^◌, Bool, true, false, ◌&&◌, nat_eq, cond, List, [], ◌∷◌, ◌++◌, length, take, refl, sym, subst, ap, ◌∙◌, length-append, length-take, true≢false, arith, Option, Some, None, nat_lt, IsTrue, bytes_eq, nat_tests, take_all, AllByRecursion, Config, Tenant, counted, Front, AtStart, Within, Begun, HeadReading, Whole, BadAt, is_begun, may_join, reading_from, is_distinct, cut_line, last_old_clock, old_front_after, old_reading_from, last_clock, tenant_fits, front_after-short, both, bytes_from_test, AreNamed, slot_of_name, Every-append, found_at, short_name, Layout, Today, Early, layout_line, front_by, tells_layout, layout_of, longest_record, front_after-is, name_of}
 use Rattle.cops_types.specs.HeadLines.{is_name}
-use Rattle.cops_types.proofs.FrontLemmas.{front_after-is}
-use Rattle.cops_script.proofs.ApartTenants.{name_of}
 use Rattle.cops_script.proofs.HeadRuns as today
 use Rattle.cops_replay.proofs.OldFronts.{FollowsTo, follows_today, old_front_after-is, old_front_after-short}
 

@@ -1,10 +1,5 @@
 -- The lines of a written audit, and those of them that are one tenant's.
-use Rattle.std.proofs.Common.{◌≡◌, ℕ, zero, suc, ◌+◌, ◌<◌, true, false, cond, List, [], ◌∷◌, ◌++◌, map, length, refl, sym, subst, ap, ◌∙◌, append-nil, arith, IsTrue, Some, None, codes, decimal, flat_map, nat_lt, slice_get}
-use Rattle.cops_replay.proofs.Names.{AllByRecursion, list_any, bytes_eq, nat_tests, flat_map-append, filter-append, flat_map-map, Config, Tenant, Whole, head_of, lines_of, AreNamed, slot_of_name, TenantConfig, first_word, newline, space, spaced, left_fails, right_fails, swapped, Lacks, name_lacks, same_bytes, same_value, Every-append, AreApart, has_text, last_clock, SoloNode, Record, ended, tenants_text, alone_lines, call_words, node_text, record_line, reply_words, AreFormed, his_records}
-use Rattle.std.specs.List.{position_or_len}
-use Rattle.cops_types.specs.Key.{is_name}
-use Rattle.cops_types.proofs.HeadLengths.{name_of_good}
-use Rattle.cops_types.proofs.WordLemmas.{first_word-more, space_foreign}
+use Rattle.cops_replay.proofs.Names.{◌≡◌, ℕ, zero, suc, ◌+◌, ◌<◌, true, false, cond, List, [], ◌∷◌, ◌++◌, map, length, refl, sym, subst, ap, ◌∙◌, append-nil, arith, IsTrue, Some, None, codes, decimal, flat_map, nat_lt, slice_get, AllByRecursion, list_any, bytes_eq, nat_tests, flat_map-append, filter-append, flat_map-map, Config, Tenant, Whole, head_of, lines_of, AreNamed, slot_of_name, TenantConfig, first_word, newline, space, spaced, left_fails, right_fails, swapped, Lacks, name_lacks, same_bytes, same_value, Every-append, AreApart, has_text, last_clock, SoloNode, Record, ended, tenants_text, alone_lines, call_words, node_text, record_line, reply_words, AreFormed, his_records, position_or_len, is_name, name_of_good, first_word-more, space_foreign}
 use Rattle.cops_replay.proofs.HeadsBack.{AreFit, lines_of-lines, of_head}
 use Rattle.cops_replay.proofs.LinesBack.{lines_lack}
 use Rattle.cops_replay.proofs.AuditTexts.{AllFormed}

@@ -1,15 +1,6 @@
 -- The audit of a script's world is that of its text, and the audit of one slot is the part of the tenant who is open there.
-use Rattle.std.proofs.Common.{◌≡◌, ℕ, List, refl, sym, subst, ap, ◌∙◌, Option, Some, None, IfErr, IfSome, OnErr, OnOk, Result, Ok, Err, IsTrue, is_some, slice_get, slice_index_or, zero, suc, [], ◌∷◌, length, inl, inr}
-use Rattle.cops_replay.proofs.Names.{AllByRecursion, Appends, IfErr-weaker, Tenant, RunFault, ReadFault, head_of, IfRunRefused, lines_of, open_at, AppendsFront, TenantConfig, tenant_config, HasTenant, nodes_of, shape_of, SoloNode, Setup, config_of, is_open_at, Written, IsLeftBy, cluster_left, life_left, HasOpenCluster, KeptWorld, open_setup, Record, HasItsTenants, ReplaysSameFor, audit_after, audit_out, open_config, open_nodes, AreFormed, AreFormedFor, SaysSameFor, HasShape, ReplaysSame, audit_text, records_of, left_config, left_nodes, open_slots, open_tenants, with_tenants, is_record, Keeps, Config, Whole, BadAt, open_slot_of_name, same_value, IsCluster, Shared, setup_left, Same, PartRefusal, HaveLines, his_records, AreNodesAt, nodes_at, IsOpenIn, IsOwnAudit, IsOwnAuditAfter, IsOwnAuditOf, RefusesOwnAuditAfter, RefusesOwnAuditOf, own_records, own_audit_text, HasLine, IsReplayOf, replayed_text}
-use Rattle.cops_model.specs.Setups.{config_in}
+use Rattle.cops_replay.proofs.Names.{◌≡◌, ℕ, List, refl, sym, subst, ap, ◌∙◌, Option, Some, None, IfErr, IfSome, OnErr, OnOk, Result, Ok, Err, IsTrue, is_some, slice_get, slice_index_or, zero, suc, [], ◌∷◌, length, inl, inr, AllByRecursion, Appends, IfErr-weaker, Tenant, RunFault, ReadFault, head_of, IfRunRefused, lines_of, open_at, AppendsFront, TenantConfig, tenant_config, HasTenant, nodes_of, shape_of, SoloNode, Setup, config_of, is_open_at, Written, IsLeftBy, cluster_left, life_left, HasOpenCluster, KeptWorld, open_setup, Record, HasItsTenants, ReplaysSameFor, audit_after, audit_out, open_config, open_nodes, AreFormed, AreFormedFor, SaysSameFor, HasShape, ReplaysSame, audit_text, records_of, left_config, left_nodes, open_slots, open_tenants, with_tenants, is_record, Keeps, Config, Whole, BadAt, open_slot_of_name, same_value, IsCluster, Shared, setup_left, Same, PartRefusal, HaveLines, his_records, AreNodesAt, nodes_at, IsOpenIn, IsOwnAudit, IsOwnAuditAfter, IsOwnAuditOf, RefusesOwnAuditAfter, RefusesOwnAuditOf, own_records, own_audit_text, HasLine, IsReplayOf, replayed_text, config_in, BadHead, text_in, IsLeftByRead, IsOfWriting, WritesAudit, WritesAuditFront, at_slots, BadConfig, IsOpenAt, IsSlotFormed, LacksTenant, SaysSameOwn, WritesOwnAudit, WritesOwnAuditFront, WritesSlot, WritesSlotFront, as_part_fault, slot_audit}
 use Rattle.cops_script.specs.declared.line_runs.fault.RunFault.TheVariants.{Refused}
-use Rattle.cops_script.specs.declared.scripts.BadConfig.{BadConfig as BadHead}
-use Rattle.cops_script.specs.ScriptRuns.{text_in}
-use Rattle.cops_script.specs.ScriptWorlds.{IsLeftByRead}
-use Rattle.cops_replay.specs.AuditRuns.{IsOfWriting, WritesAudit, WritesAuditFront}
-use Rattle.cops_replay.specs.AuditText.{at_slots}
-use Rattle.cops_replay.specs.declared.refusals.PartRefusal.TheVariants.{BadConfig}
-use Rattle.cops_replay.specs.OwnParts.{IsOpenAt, IsSlotFormed, LacksTenant, SaysSameOwn, WritesOwnAudit, WritesOwnAuditFront, WritesSlot, WritesSlotFront, as_part_fault, slot_audit}
 use Rattle.cops_replay.proofs.AuditTexts.{audit_text-same, AllFormed}
 use Rattle.cops_replay.proofs.OpenLists.{open_there}
 use Rattle.cops_replay.proofs.PageLemmas.{front_of_none}

@@ -1,8 +1,5 @@
 -- The text of an audit, piece by piece, whose records have the form of a line.
-use Rattle.std.proofs.Common.{◌≡◌, ℕ, zero, suc, Bool, IsTrue, ◌+◌, ◌<◌, List, [], ◌∷◌, ◌++◌, length, map, drop, get_or, ◌≤◌, refl, sym, subst, ap, ◌∙◌, arith, Some, slice_get}
-use Rattle.cops_replay.proofs.Names.{AllByRecursion, list_all, flat_map-append, slice_get-get_or, slice_get_within, drop_all, drop_more, length-map, nat_tests, Config, Tenant, TenantConfig, tenant_config, both, same_value, AuditEntry, NodeId, HasTenant, IsCluster, id_of, shape_of, Shared, place_at, solo_of, place_of, SoloNode, audit_text, ended, head_text, his_nodes, record_of, records_from, records_of, records_text, tenants_text, record_line, Every-append, Place, trail_of, calls_in_trail, Record, has_form, is_record, his_records}
-use Rattle.std.proofs.lemmas.Option.{slice_get-map}
-use Rattle.cops_types.proofs.Elements.{Every-at, slice_get-Among}
+use Rattle.cops_replay.proofs.Names.{◌≡◌, ℕ, zero, suc, Bool, IsTrue, ◌+◌, ◌<◌, List, [], ◌∷◌, ◌++◌, length, map, drop, get_or, ◌≤◌, refl, sym, subst, ap, ◌∙◌, arith, Some, slice_get, AllByRecursion, list_all, flat_map-append, slice_get-get_or, slice_get_within, drop_all, drop_more, length-map, nat_tests, Config, Tenant, TenantConfig, tenant_config, both, same_value, AuditEntry, NodeId, HasTenant, IsCluster, id_of, shape_of, Shared, place_at, solo_of, place_of, SoloNode, audit_text, ended, head_text, his_nodes, record_of, records_from, records_of, records_text, tenants_text, record_line, Every-append, Place, trail_of, calls_in_trail, Record, has_form, is_record, his_records, slice_get-map, Every-at, slice_get-Among}
 use Rattle.cops_replay.proofs.AuditReplays.{audits_formed}
 
 -- ---- what is left of a list, from an element on

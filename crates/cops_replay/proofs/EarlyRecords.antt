@@ -1,7 +1,5 @@
 -- A file of layout 1 whose clocks are not too great replays as one of today's layout with the same configuration and the same lines.
-use Rattle.std.proofs.Common.{◌≡◌, ℕ, false, ◌||◌, List, [], ◌∷◌, map, refl, sym, ap, ◌∙◌, arith, Some, IsTrue, nat_le, slice_get}
-use Rattle.cops_replay.proofs.Names.{AllByRecursion, list_all, list_any, bytes_eq, nat_tests, Config, Tenant, Whole, tenant_config, first_word, Every-filter, Layout, Today, Early, ReplayRefusal, last_early_clock, fresh_nodes, IsEarlyLine, IsRefusedBy, IsReplayBy, alone_lines, head_by, is_great_in, is_too_great_in, starts_great_in, told_of}
-use Rattle.cops_replay.specs.ReplayText.{has_great_clock}
+use Rattle.cops_replay.proofs.Names.{◌≡◌, ℕ, false, ◌||◌, List, [], ◌∷◌, map, refl, sym, ap, ◌∙◌, arith, Some, IsTrue, nat_le, slice_get, AllByRecursion, list_all, list_any, bytes_eq, nat_tests, Config, Tenant, Whole, tenant_config, first_word, Every-filter, Layout, Today, Early, ReplayRefusal, last_early_clock, fresh_nodes, IsEarlyLine, IsRefusedBy, IsReplayBy, alone_lines, head_by, is_great_in, is_too_great_in, starts_great_in, told_of, has_great_clock}
 use Rattle.cops_replay.proofs.EarlySteps.{early_told, by_its_rules, by_rules_of_today}
 use Rattle.cops_replay.proofs.AuditTexts.{all_at}
 use Rattle.cops_replay.proofs.LineLengths.{at_most}

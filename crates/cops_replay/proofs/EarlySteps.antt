@@ -1,17 +1,5 @@
 -- What layout 1 reads of a line, if no clock is too great for layout 2, other layouts read too; and its rules compute what today's rules do.
-use Rattle.std.proofs.Common.{◌≡◌, ℕ, ◌≤◌, Bool, true, false, ◌&&◌, List, length, refl, arith, Option, Some, None, nat_le, nat_lt, zero, suc, ◌+◌, ◌||◌, cond, [], ◌∷◌, inl, inr, map, get_or, set, sym, subst, ap, ◌∙◌, IsFalse, if◌then◌else◌, max, replicate}
-use Rattle.cops_replay.proofs.Names.{option_and_then, nat_tests, Pair, last_old_clock, is_version, Timestamp, parts_at, version_text, NodeCall, NodeReply, Record, Today, Early, last_early_clock, old_record_in, layout_1, record_by, record_in, kept_if, numbers_of, version_in, IsRecordLine, longest_record, told_of, AllByRecursion, Fault, Config, Tenant, Entry, TenantConfig, tenant_config, version_eq, Every-append, Put, Commit, Collect, Already, Committed, Place, node_number, place_of, SoloNode, new_node, CallEffect, acknowledge, effect, node_step, put_with_version, store_unless, Replayed, Layout, fresh_nodes, nodes_after, turn_of, FindsBy, starts_great_in}
-use Rattle.std.specs.List.{fold}
-use Rattle.cops_types.specs.declared.faults.Fault.TheVariants.{AuditFull}
-use Rattle.cops_types.specs.Pairs.{greatest_clock}
-use Rattle.cops_types.specs.Records.{Tracked, clock, ever, is_outdated, mark}
-use Rattle.cops_types.specs.Version.{next_version}
-use Rattle.cops_model.specs.declared.calls.NodeCall.TheVariants.{Ack}
-use Rattle.cops_model.specs.declared.calls.NodeReply.TheVariants.{OutOfOrder, Refused}
-use Rattle.cops_model.specs.SoloNode.{front, queue}
-use Rattle.cops_model.specs.Step.{audited, commit_refusal, unchanged, version_of_put, was_committed}
-use Rattle.cops_replay.specs.VersionLayouts.{early_version_of, is_early, old_nodes, version_under, effect_under, layout_2, next_under, node_step_under, turn_in}
-use Rattle.cops_replay.specs.Replaying.{AgreesWith}
+use Rattle.cops_replay.proofs.Names.{◌≡◌, ℕ, ◌≤◌, Bool, true, false, ◌&&◌, List, length, refl, arith, Option, Some, None, nat_le, nat_lt, zero, suc, ◌+◌, ◌||◌, cond, [], ◌∷◌, inl, inr, map, get_or, set, sym, subst, ap, ◌∙◌, IsFalse, if◌then◌else◌, max, replicate, option_and_then, nat_tests, Pair, last_old_clock, is_version, Timestamp, parts_at, version_text, NodeCall, NodeReply, Record, Today, Early, last_early_clock, old_record_in, layout_1, record_by, record_in, kept_if, numbers_of, version_in, IsRecordLine, longest_record, told_of, AllByRecursion, Fault, Config, Tenant, Entry, TenantConfig, tenant_config, version_eq, Every-append, Put, Commit, Collect, Already, Committed, Place, node_number, place_of, SoloNode, new_node, CallEffect, acknowledge, effect, node_step, put_with_version, store_unless, Replayed, Layout, fresh_nodes, nodes_after, turn_of, FindsBy, starts_great_in, fold, AuditFull, greatest_clock, Tracked, clock, ever, is_outdated, mark, next_version, Ack, OutOfOrder, Refused, front, queue, audited, commit_refusal, unchanged, version_of_put, was_committed, early_version_of, is_early, old_nodes, version_under, effect_under, layout_2, next_under, node_step_under, turn_in, AgreesWith}
 use Rattle.cops_replay.proofs.LinesSpelled.{Alike, OfCall, OfRecord, OfReply, Said, alike_if, alike_map, read_alike, records, version_is}
 
 -- ---- clocks

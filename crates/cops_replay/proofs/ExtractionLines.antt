@@ -1,13 +1,6 @@
 -- What the extraction of a part comes to over a whole file.
-use Rattle.std.proofs.Common.{◌≡◌, ℕ, ◌≤◌, Bool, true, false, cond, List, [], ◌∷◌, ◌++◌, length, map, inl, inr, refl, sym, subst, ap, ◌∙◌, append_assoc, arith, Option, Some, None, IfSome, flat_map}
-use Rattle.std.specs.Prelude.{⊤}
-use Rattle.cops_replay.proofs.Names.{bytes_eq, Keeps, flat_map-append, filter-append, nat_tests, AtStart, lines_of, cut_line, first_word, RunFault, Run, AnswersAll, IfRunRefused, StopsEarly, AppendsFront-more, AuditMachine, Layout, Early, PartRefusal, IsAtHead, audit_rules, ended, IsPartBy, IsPartOf, RefusesPartBy, RefusesPartOf, layout_lines, lone_head_lines, alone_lines, longest_record, seen_lines}
-use Rattle.std.proofs.lemmas.List.{map-append}
+use Rattle.cops_replay.proofs.Names.{◌≡◌, ℕ, ◌≤◌, Bool, true, false, cond, List, [], ◌∷◌, ◌++◌, length, map, inl, inr, refl, sym, subst, ap, ◌∙◌, append_assoc, arith, Option, Some, None, IfSome, flat_map, ⊤, bytes_eq, Keeps, flat_map-append, filter-append, nat_tests, AtStart, lines_of, cut_line, first_word, RunFault, Run, AnswersAll, IfRunRefused, StopsEarly, AppendsFront-more, AuditMachine, Layout, Early, PartRefusal, IsAtHead, audit_rules, ended, IsPartBy, IsPartOf, RefusesPartBy, RefusesPartOf, layout_lines, lone_head_lines, alone_lines, longest_record, seen_lines, map-append, PartOf, BadConfig, UnknownTenant, part_lines, part_rules, WritesPart, WritesPartFront}
 use Rattle.cops_script.specs.declared.line_runs.fault.RunFault.TheVariants as fault
-use Rattle.cops_replay.specs.declared.extractions.PartOf.{PartOf}
-use Rattle.cops_replay.specs.declared.refusals.PartRefusal.TheVariants.{BadConfig, UnknownTenant}
-use Rattle.cops_replay.specs.ExtractionRules.{part_lines, part_rules}
-use Rattle.cops_replay.specs.OwnParts.{WritesPart, WritesPartFront}
 use Rattle.cops_replay.proofs.AuditHeads.{short_in}
 use Rattle.cops_replay.proofs.FileRuns as runs
 use Rattle.cops_replay.proofs.RecordRuns.{same_own}

@@ -1,14 +1,7 @@
 -- What the machine of an audit comes to over a whole file, whatever runs behind its head.
-use Rattle.std.proofs.Common.{◌≡◌, ℕ, ◌+◌, ◌<◌, Bool, true, false, List, [], ◌∷◌, ◌++◌, map, inl, inr, refl, sym, subst, ap, ◌∙◌, append_assoc, append-nil, arith, Option, Some, None}
-use Rattle.cops_replay.proofs.Names.{bytes_eq, Keeps, nat_tests, Config, counted, Front, AtStart, Within, Begun, is_begun, Whole, BadAt, lines_of, cut_line, cut_lines, AppendsFront, AreNamed, Run, AnswersAll, IfRunRefused, StopsEarly, RunFault, real_lines, AppendsFront-nil, input_is, known_lines, known_whole, AuditMachine, Layout, Today, Early, AuditRules, IsAtHead, audit_rules, head_answers, line_answers, layout_line, count_in, front_by, layout_in, tells_layout, head_by, layout_of, longest_record}
-use Rattle.cops_script.specs.declared.line_runs.fault.RunFault.TheVariants as fault
+use Rattle.cops_replay.proofs.Names.{◌≡◌, ℕ, ◌+◌, ◌<◌, Bool, true, false, List, [], ◌∷◌, ◌++◌, map, inl, inr, refl, sym, subst, ap, ◌∙◌, append_assoc, append-nil, arith, Option, Some, None, bytes_eq, Keeps, nat_tests, Config, counted, Front, AtStart, Within, Begun, is_begun, Whole, BadAt, lines_of, cut_line, cut_lines, AppendsFront, AreNamed, Run, AnswersAll, IfRunRefused, StopsEarly, RunFault, real_lines, AppendsFront-nil, input_is, known_lines, known_whole, AuditMachine, Layout, Today, Early, AuditRules, IsAtHead, audit_rules, head_answers, line_answers, layout_line, count_in, front_by, layout_in, tells_layout, head_by, layout_of, longest_record, Run-quiet, AuditFile, Head, Records, FileHead, GoesOn, end_answers, end_refuses, head_refuses, line_refuses, rules_in, IsFileHeadAt, front_in, front_with_by}
 use Rattle.cops_script.specs.declared.scripts.BadConfig.{BadConfig}
-use Rattle.cops_script.proofs.KnownLemmas.{Run-quiet}
-use Rattle.cops_replay.specs.declared.audit_machine.AuditFile.{AuditFile}
-use Rattle.cops_replay.specs.declared.audit_machine.AuditFile.TheVariants.{Head, Records}
-use Rattle.cops_replay.specs.declared.file_heads.FileHead.{FileHead}
-use Rattle.cops_replay.specs.AuditFiles.{GoesOn, end_answers, end_refuses, head_refuses, line_refuses, rules_in}
-use Rattle.cops_replay.specs.FileHeads.{IsFileHeadAt, front_in, front_with_by}
+use Rattle.cops_script.specs.declared.line_runs.fault.RunFault.TheVariants as fault
 use Rattle.cops_replay.proofs.AuditHeads.{IsCounted, bad_end, bad_first, by_test, counted-small, counted_next, cut_in_head, cut_layout, grows_by, layout_first, named_begun, read_once, read_whole, reading_by, start, tells_not}
 
 pub kept : (contents : Option (List ℕ)) → Keeps contents contents

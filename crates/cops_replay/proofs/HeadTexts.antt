@@ -1,6 +1,5 @@
 -- The text of a head that was read is read back, and so replays of a migrated audit find what replays of the audit do.
-use Rattle.std.proofs.Common.{◌≡◌, ℕ, Bool, cond, List, [], ◌∷◌, ◌++◌, refl, sym, ap, ◌∙◌, append_assoc, append-nil, ◌↔◌, arith, Option, None, flat_map}
-use Rattle.cops_replay.proofs.Names.{bytes_eq, flat_map-append, flat_map-map, nat_tests, Config, Whole, head_of, cluster_in, lines_of, newline, cluster_in-is, Lacks, lacks_from_test, same_bytes, bytes_from_test, Layout, Early, Today, ReplayRefusal, ended, head_text, layout_line, migration_of, IsAuditInBoth, IsRefusedBy, IsReplayBy, IsReplayOf, RefusesReplayOf, head_by, layout_of}
+use Rattle.cops_replay.proofs.Names.{◌≡◌, ℕ, Bool, cond, List, [], ◌∷◌, ◌++◌, refl, sym, ap, ◌∙◌, append_assoc, append-nil, ◌↔◌, arith, Option, None, flat_map, bytes_eq, flat_map-append, flat_map-map, nat_tests, Config, Whole, head_of, cluster_in, lines_of, newline, cluster_in-is, Lacks, lacks_from_test, same_bytes, bytes_from_test, Layout, Early, Today, ReplayRefusal, ended, head_text, layout_line, migration_of, IsAuditInBoth, IsRefusedBy, IsReplayBy, IsReplayOf, RefusesReplayOf, head_by, layout_of}
 use Rattle.cops_replay.proofs.HeadsBack.{head_reads_back, head_unbroken, holds_of_rest, lines_of-lack, lines_of-lines, lines_of-more, written_head, written_tenant}
 use Rattle.cops_replay.proofs.EarlyRecords.{refused_alike, replayed_alike}
 use Rattle.cops_replay.proofs.WholeMigrations.{alike, whole}

@@ -1,18 +1,6 @@
 -- A head that was read is read again from the lines that are written of it, with each token in lower case with hyphens.
-use Rattle.std.proofs.Common.{◌≡◌, ℕ, ◌+◌, ◌<◌, ◌≤◌, ◌^◌, Bool, true, false, cond, ◌&&◌, inl, inr, All, List, [], ◌∷◌, ◌++◌, length, map, drop, if◌then◌else◌, refl, sym, subst, ap, ◌∙◌, append_assoc, append-nil, arith, not, length-append, IsTrue, codes, decimal, ◌==◌, Option, Some, None, nat_lt}
-use Rattle.cops_replay.proofs.Names.{AllByRecursion, list_all, list_any, nat_tests, recursion_from_All, bytes_eq, Config, Tenant, Front, AtStart, Within, Begun, Whole, BadAt, head_of, reading_from, IsTenantLineTo, are_sizes, begin_line, cluster_line, is_tenant_to, tenant_line, is_distinct, most_tenants, last_clock, is_u64, newline, space, spaced, front_after-finds, tenant_fits, IsForeign, Lacks, both, decimal_lacks, lacks_from_test, name_lacks, same_value, and, Every-append, AreApart, has_text, both_fail, left_fails, right_fails, swapped, with_tenants, Today}
-use Rattle.std.specs.List.{AllPass, flat_map}
-use Rattle.std.proofs.lemmas.Bool.Decides.{Decides-eqb}
-use Rattle.std.proofs.lemmas.List.Sums.{AllPass-from_list_all}
-use Rattle.uuid.specs.Text.{by_index, byte_of_digits, digit_place, digits_of, has_hyphens, has_urn_prefix, hex_digit, hyphen, hyphenated_text, is_hex_digit, is_hyphen_place, lower, nibble, parsed, parsed_braced, parsed_hyphenated, parsed_simple, parsed_urn}
-use Rattle.uuid.proofs.RoundTrips.{parses_hyphenated}
-use Rattle.uuid.proofs.TextLemmas.{by_index_at, by_index_length, nibble_small}
-use Rattle.cops_types.specs.Head.{Leads}
-use Rattle.cops_types.specs.Lines.{lines_of, onto_first}
-use Rattle.cops_types.proofs.HeadLemmas.{sizes_fit}
-use Rattle.cops_types.proofs.HeadReading.{token_is_word}
-use Rattle.cops_types.proofs.Elements.{Every-from}
-use Rattle.cops_types.proofs.BegunSlots.{apart_more}
+use Rattle.cops_replay.proofs.Names.{◌≡◌, ℕ, ◌+◌, ◌<◌, ◌≤◌, ◌^◌, Bool, true, false, cond, ◌&&◌, inl, inr, All, List, [], ◌∷◌, ◌++◌, length, map, drop, if◌then◌else◌, refl, sym, subst, ap, ◌∙◌, append_assoc, append-nil, arith, not, length-append, IsTrue, codes, decimal, ◌==◌, Option, Some, None, nat_lt, AllByRecursion, list_all, list_any, nat_tests, recursion_from_All, bytes_eq, Config, Tenant, Front, AtStart, Within, Begun, Whole, BadAt, head_of, reading_from, IsTenantLineTo, are_sizes, begin_line, cluster_line, is_tenant_to, tenant_line, is_distinct, most_tenants, last_clock, is_u64, newline, space, spaced, front_after-finds, tenant_fits, IsForeign, Lacks, both, decimal_lacks, lacks_from_test, name_lacks, same_value, and, Every-append, AreApart, has_text, both_fail, left_fails, right_fails, swapped, with_tenants, Today, AllPass, flat_map, Decides-eqb, AllPass-from_list_all, by_index, byte_of_digits, digit_place, digits_of, has_hyphens, has_urn_prefix, hex_digit, hyphen, hyphenated_text, is_hex_digit, is_hyphen_place, lower, nibble, parsed, parsed_braced, parsed_hyphenated, parsed_simple, parsed_urn, parses_hyphenated, by_index_at, by_index_length, nibble_small, Leads, onto_first, sizes_fit, token_is_word, Every-from, apart_more}
+use Rattle.cops_types.specs.Lines.{lines_of}
 use Rattle.cops_replay.proofs.AuditHeads.{follows_by, head_holds}
 use Rattle.cops_replay.proofs.OldFronts.{FollowsTo}
 

@@ -1,11 +1,5 @@
 -- No line of a record is too long whose lists have at most 1,024 pairs.
-use Rattle.std.proofs.Common.{◌≡◌, ℕ, suc, ◌+◌, ◌*◌, ◌^◌, ◌<◌, ◌≤◌, true, ◌&&◌, List, [], ◌∷◌, ◌++◌, length, map, arith, length-append, IsTrue, codes, decimal, nat_le, nat_lt}
-use Rattle.cops_replay.proofs.Names.{join_with_byte, list_all, on, nat_tests, Fault, Pair, Entry, is_key, key_cmp, NODES, pair_cmp, is_rising, TenantConfig, Timestamp, last_clock, is_u64, list_text, pair_text, spaced, version_text, both, NodeCall, Put, Commit, NodeId, NodeReply, Found, Wanted, Latest, Exactly, Record, are_deps, are_near, is_pair, is_version, call_words, entry_words, is_audited, is_bytes, is_call, is_entry, is_record, is_reply, is_wanted, node_text, record_line, record_value, record_words, reply_words, wanted_text}
-use Rattle.std.proofs.lemmas.Fmt.{length-decimal-le}
-use Rattle.cops_types.specs.FaultText.{fault_text}
-use Rattle.cops_types.specs.Key.{is_name}
-use Rattle.cops_model.specs.ListLimits.{HasFewInCall, HasFewInReply, HasFewPairs}
-use Rattle.cops_types.proofs.HeadLengths.{name-short}
+use Rattle.cops_replay.proofs.Names.{◌≡◌, ℕ, suc, ◌+◌, ◌*◌, ◌^◌, ◌<◌, ◌≤◌, true, ◌&&◌, List, [], ◌∷◌, ◌++◌, length, map, arith, length-append, IsTrue, codes, decimal, nat_le, nat_lt, join_with_byte, list_all, on, nat_tests, Fault, Pair, Entry, is_key, key_cmp, NODES, pair_cmp, is_rising, TenantConfig, Timestamp, last_clock, is_u64, list_text, pair_text, spaced, version_text, both, NodeCall, Put, Commit, NodeId, NodeReply, Found, Wanted, Latest, Exactly, Record, are_deps, are_near, is_pair, is_version, call_words, entry_words, is_audited, is_bytes, is_call, is_entry, is_record, is_reply, is_wanted, node_text, record_line, record_value, record_words, reply_words, wanted_text, length-decimal-le, fault_text, is_name, HasFewInCall, HasFewInReply, HasFewPairs, name-short}
 use Rattle.cops_replay.proofs.PartLemmas.{length-bytes_text}
 use Rattle.cops_replay.proofs.LinesBack.{entry_holds, record_holds}
 

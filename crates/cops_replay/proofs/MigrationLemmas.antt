@@ -1,14 +1,9 @@
 -- What the rules of a migration come to over a whole text.
-use Rattle.std.proofs.Common.{◌≡◌, ℕ, ◌+◌, ◌≤◌, Bool, true, false, cond, List, [], ◌∷◌, ◌++◌, length, map, inl, inr, refl, sym, subst, ap, ◌∙◌, append_assoc, append-nil, arith, Option, Some, None, IfSome, IsTrue, nat_le, Result, Ok, Err}
-use Rattle.cops_replay.proofs.Names.{Appends, nat_tests, take_all, Config, Fault, Syntax, RunFault, counted, Front, AtStart, Begun, is_begun, Run, AnswersAll, IfRunRefused, StopsEarly, lines_of, cut_line, cut_lines, has_clocks_to, old_front_after, last_old_clock, AppendsFront, AppendsFront-more, input_is, known_lines, known_whole, real_lines, ended, migrated_from, migrated_records, migration_of, record_fault, with_text, part_answers, last_early_clock, old_refusal_of, longest_record, told_number, Early}
+use Rattle.cops_replay.proofs.Names.{◌≡◌, ℕ, ◌+◌, ◌≤◌, Bool, true, false, cond, List, [], ◌∷◌, ◌++◌, length, map, inl, inr, refl, sym, subst, ap, ◌∙◌, append_assoc, append-nil, arith, Option, Some, None, IfSome, IsTrue, nat_le, Result, Ok, Err, Appends, nat_tests, take_all, Config, Fault, Syntax, RunFault, counted, Front, AtStart, Begun, is_begun, Run, AnswersAll, IfRunRefused, StopsEarly, lines_of, cut_line, cut_lines, has_clocks_to, old_front_after, last_old_clock, AppendsFront, AppendsFront-more, input_is, known_lines, known_whole, real_lines, ended, migrated_from, migrated_records, migration_of, record_fault, with_text, part_answers, last_early_clock, old_refusal_of, longest_record, told_number, Early, OldAudit, OldPart, MigrationRefusal, BadLine, Migration, bad_config_at, bad_line_at, ends_by, migrated_front, OldHeadIsRefused, RecordRefuses, migration_answers, migration_end_refuses, migration_refuses, migration_rules, part_ends, part_refuses, records_in}
 use Rattle.cops_types.specs.declared.faults.Fault.TheVariants.{ClockTooGreat}
-use Rattle.cops_script.specs.declared.line_runs.fault.RunFault.TheVariants as fault
-use Rattle.cops_replay.specs.declared.migrations.OldAudit.{OldAudit}
-use Rattle.cops_replay.specs.declared.migrations.OldPart.{OldPart}
 use Rattle.cops_replay.specs.declared.migrations.OldPart.TheVariants.{Head, Records}
-use Rattle.cops_replay.specs.declared.migrations.MigrationRefusal.{MigrationRefusal}
-use Rattle.cops_replay.specs.declared.migrations.MigrationRefusal.TheVariants.{BadConfig, BadLine}
-use Rattle.cops_replay.specs.MigratedText.{Migration, bad_config_at, bad_line_at, ends_by, migrated_front, OldHeadIsRefused, RecordRefuses, migration_answers, migration_end_refuses, migration_refuses, migration_rules, part_ends, part_refuses, records_in}
+use Rattle.cops_replay.specs.declared.migrations.MigrationRefusal.TheVariants.{BadConfig}
+use Rattle.cops_script.specs.declared.line_runs.fault.RunFault.TheVariants as fault
 use Rattle.cops_replay.proofs.AuditHeads.{cut_in_head}
 use Rattle.cops_replay.proofs.OldFronts.{FollowsTo, old_front_after-is}
 use Rattle.cops_replay.proofs.RecordRuns.{capped_more, same_cut}

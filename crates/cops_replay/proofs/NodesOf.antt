@@ -1,11 +1,5 @@
 -- Which nodes are a configuration's.
-use Rattle.std.proofs.Common.{◌≡◌, ℕ, suc, ◌*◌, ◌<◌, ◌≤◌, List, [], ◌∷◌, length, get_or, refl, sym, ap, ◌∙◌, arith, Option, Some, option_map}
-use Rattle.cops_replay.proofs.Names.{AllByRecursion, slice_get-get_or, nat_tests, Config, Tenant, NODES, tenant_config, id_of, Shared, place_at, place_of, AreNodesOf, AreNodesOfOpen}
-use Rattle.cops_node.specs.declared.Home.{Home}
-use Rattle.cops_node.specs.declared.Terms.{Terms}
-use Rattle.cops_node.specs.Parts.{home_of, place_under, site_in, site_of, terms_at, terms_of}
-use Rattle.cops_node.proofs.Clusters.{place_new}
-use Rattle.cops_replay.specs.AuditText.{HaveTenants}
+use Rattle.cops_replay.proofs.Names.{◌≡◌, ℕ, suc, ◌*◌, ◌<◌, ◌≤◌, List, [], ◌∷◌, length, get_or, refl, sym, ap, ◌∙◌, arith, Option, Some, option_map, AllByRecursion, slice_get-get_or, nat_tests, Config, Tenant, NODES, tenant_config, id_of, Shared, place_at, place_of, AreNodesOf, AreNodesOfOpen, Home, Terms, home_of, place_under, site_in, site_of, terms_at, terms_of, place_new, HaveTenants}
 use Rattle.cops_replay.proofs.AuditTexts.{each_at}
 
 all_from : (P : Shared → Type 0) (nodes : List Shared) → ((i : ℕ) (node : Shared) → i < length nodes → node ≡ get_or nodes i node → P node) → AllByRecursion P nodes

@@ -1,18 +1,6 @@
 -- Heads of layout 1: the state to which a line leads, the length of the line, and what a reader says of it.
-use Rattle.std.proofs.Common.{◌≡◌, ℕ, suc, ◌+◌, ◌<◌, ◌≤◌, ◌^◌, ◌⊎◌, inl, inr, Bool, true, false, cond, List, [], ◌∷◌, ◌++◌, length, refl, sym, subst, ap, ◌∙◌, length-append, arith, IsTrue, codes, decimal, Option, Some, None, IsFalse}
-use Rattle.cops_replay.proofs.Names.{option_and_then, bytes_eq, nat_tests, Config, Tenant, counted, Front, AtStart, Within, Begun, head_with, may_join, IsTenantLineTo, are_sizes, begin_line, cluster_in, tenant_line, last_old_clock, old_front_after, has_clocks_to, last_clock, spaced, front_after-finds, cluster_in-is, tenant_fits, front_after-short, bytes_from_test, same_value, last_early_clock}
-use Rattle.std.specs.Option.{option_map}
-use Rattle.std.proofs.lemmas.Fmt.{length-decimal-le}
-use Rattle.cops_types.specs.declared.heads.HeadLine.TheVariants.{More, Begin, BadLine}
-use Rattle.cops_types.specs.Head.{Ends, Follows, with_tenant}
-use Rattle.cops_types.specs.HeadLines.{IsClusterLine, is_tenant}
-use Rattle.cops_types.specs.HeadReader.{said_at, still_open}
-use Rattle.cops_types.specs.OldHead.{old_front_with, old_tenant_in, with_few_shards}
-use Rattle.cops_types.proofs.HeadLemmas.{tenant_in_to-is}
-use Rattle.cops_types.proofs.HeadLengths.{tenant-short as todays-short}
-use Rattle.cops_types.proofs.HeadReading.{clock_within, is_tenant-made, quota_of_tenant}
-use Rattle.cops_replay.specs.OldHeads.{OldHeadContinues, has_sizes}
-use Rattle.cops_replay.specs.MigratedText.{OldHeadGoesOn}
+use Rattle.cops_replay.proofs.Names.{◌≡◌, ℕ, suc, ◌+◌, ◌<◌, ◌≤◌, ◌^◌, ◌⊎◌, inl, inr, Bool, true, false, cond, List, [], ◌∷◌, ◌++◌, length, refl, sym, subst, ap, ◌∙◌, length-append, arith, IsTrue, codes, decimal, Option, Some, None, IsFalse, option_and_then, bytes_eq, nat_tests, Config, Tenant, counted, Front, AtStart, Within, Begun, head_with, may_join, IsTenantLineTo, are_sizes, begin_line, cluster_in, tenant_line, last_old_clock, old_front_after, has_clocks_to, last_clock, spaced, front_after-finds, cluster_in-is, tenant_fits, front_after-short, bytes_from_test, same_value, last_early_clock, option_map, length-decimal-le, More, Begin, Ends, Follows, with_tenant, IsClusterLine, is_tenant, said_at, still_open, old_front_with, old_tenant_in, with_few_shards, tenant_in_to-is, todays-short, clock_within, is_tenant-made, quota_of_tenant, OldHeadContinues, has_sizes, OldHeadGoesOn}
+use Rattle.cops_types.specs.declared.heads.HeadLine.TheVariants.{BadLine}
 
 -- ---- one line
 

@@ -1,9 +1,6 @@
 -- A replay has one result, and depends on the tenant's part of the file alone.
-use Rattle.std.proofs.Common.{◌≡◌, ℕ, ◌+◌, ◌||◌, List, [], ◌∷◌, map, inl, inr, refl, sym, subst, ap, ◌∙◌, arith, Some, None, nat_lt}
-use Rattle.cops_replay.proofs.Names.{list_any, nat_tests, Config, Tenant, Whole, BadAt, cut_line, lines_of, slot_of_name, TenantConfig, tenant_config, SoloNode, Layout, Today, Early, Record, Replayed, ReplayRefusal, last_early_clock, fresh_nodes, FindsBy, HasPart, IsRefusedBy, IsReplayBy, IsReplayOf, RefusesReplayOf, alone_lines, head_by, is_great_in, is_too_great_in, longest_record, seen_lines, starts_great_in, told_of}
-use Rattle.cops_replay.specs.declared.refusals.ReplayRefusal.TheVariants.{BadConfig, UnknownTenant, ClockTooGreat}
-use Rattle.cops_replay.specs.VersionLayouts.{nodes_after_in}
-use Rattle.cops_replay.specs.ReplayText.{IsAuditFor}
+use Rattle.cops_replay.proofs.Names.{◌≡◌, ℕ, ◌+◌, ◌||◌, List, [], ◌∷◌, map, inl, inr, refl, sym, subst, ap, ◌∙◌, arith, Some, None, nat_lt, list_any, nat_tests, Config, Tenant, Whole, BadAt, cut_line, lines_of, slot_of_name, TenantConfig, tenant_config, SoloNode, Layout, Today, Early, Record, Replayed, ReplayRefusal, last_early_clock, fresh_nodes, FindsBy, HasPart, IsRefusedBy, IsReplayBy, IsReplayOf, RefusesReplayOf, alone_lines, head_by, is_great_in, is_too_great_in, longest_record, seen_lines, starts_great_in, told_of, ClockTooGreat, nodes_after_in, IsAuditFor}
+use Rattle.cops_replay.specs.declared.refusals.ReplayRefusal.TheVariants.{BadConfig, UnknownTenant}
 use Rattle.cops_replay.proofs.RecordRuns.{great_cut, told_cut}
 
 one_found : (layout rules : Layout) (config : TenantConfig) (passed : ℕ) (nodes : List SoloNode) (lines : List (List ℕ)) (one other : Replayed) → FindsBy layout rules config passed nodes lines one → FindsBy layout rules config passed nodes lines other → one ≡ other

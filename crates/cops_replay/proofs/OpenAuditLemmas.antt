@@ -1,7 +1,5 @@
 -- The audit of the open tenants is that of their list and of their slots.
-use Rattle.std.proofs.Common.{◌≡◌, ℕ, List, refl, sym, subst, arith, slice_index_or, Option}
-use Rattle.cops_replay.proofs.Names.{AllByRecursion, nat_tests, Config, Tenant, Whole, head_of, tenant_config, shape_of, IsCluster, AuditFits, Shared, AreNodesAt, AreNodesOfOpen, audit_at, nodes_at, open_audit_of, open_slots, open_tenants, with_tenants, audit_text, AllReplaySame, AreFormed, HaveLines, SaysSame, HasItsTenants, open_config, open_nodes, KeptWorld}
-use Rattle.cops_replay.specs.AuditText.{open_config_of, open_nodes_of}
+use Rattle.cops_replay.proofs.Names.{◌≡◌, ℕ, List, refl, sym, subst, arith, slice_index_or, Option, AllByRecursion, nat_tests, Config, Tenant, Whole, head_of, tenant_config, shape_of, IsCluster, AuditFits, Shared, AreNodesAt, AreNodesOfOpen, audit_at, nodes_at, open_audit_of, open_slots, open_tenants, with_tenants, audit_text, AllReplaySame, AreFormed, HaveLines, SaysSame, HasItsTenants, open_config, open_nodes, KeptWorld, open_config_of, open_nodes_of}
 use Rattle.cops_replay.proofs.AuditReplays.{cluster_replays_same}
 use Rattle.cops_replay.proofs.OpenLists.{nodes_of_open}
 use Rattle.cops_replay.proofs.WrittenAudits.{says_same}

@@ -1,16 +1,5 @@
 -- The tenants who are open behind the lines of a script could stand in a head.
-use Rattle.std.proofs.Common.{◌≡◌, ℕ, zero, suc, ◌+◌, ◌-◌, ◌<◌, ◌≤◌, Bool, true, false, cond, ◌==◌, List, [], ◌∷◌, ◌++◌, length, map, set, refl, sym, ap, ◌∙◌, append-nil, arith, codes, replicate, slice_get, Option, Some, None}
-use Rattle.cops_replay.proofs.Names.{AllByRecursion, list_any, bytes_eq, length-set, nat_tests, Config, Tenant, Fault, AtStart, Whole, head_of, most_tenants, begun_with, has_name, open_at, open_slot_of_name, AreApart, has_text, first_word, last_clock, both_fail, left_fails, right_fails, said_to, left_config, open_tenants, with_tenants}
-use Rattle.cops_types.specs.HeadLines.{tenant_in}
-use Rattle.cops_script.specs.HostLines.{admitted_in, closed_in, plus}
-use Rattle.cops_types.specs.OpenSlots.{admission_refusal, has_token}
-use Rattle.cops_types.proofs.BegunSlots.{apart_behind}
-use Rattle.cops_types.proofs.HeadLemmas.{tenant_in-is}
-use Rattle.cops_script.proofs.HostLineLemmas.{admitted-good}
-use Rattle.cops_types.proofs.OpenSlotLemmas.{apart_left, apart_put}
-use Rattle.cops_script.specs.Said.{Said, OfHost, admission_of, admission_unless, begins_admission, begins_closing, closing_of, said_found, said_in, tenants_after, tenants_past}
-use Rattle.cops_model.specs.Setups.{next_slot}
-use Rattle.cops_script.proofs.OpenSets.{may_be_given}
+use Rattle.cops_replay.proofs.Names.{◌≡◌, ℕ, zero, suc, ◌+◌, ◌-◌, ◌<◌, ◌≤◌, Bool, true, false, cond, ◌==◌, List, [], ◌∷◌, ◌++◌, length, map, set, refl, sym, ap, ◌∙◌, append-nil, arith, codes, replicate, slice_get, Option, Some, None, AllByRecursion, list_any, bytes_eq, length-set, nat_tests, Config, Tenant, Fault, AtStart, Whole, head_of, most_tenants, begun_with, has_name, open_at, open_slot_of_name, AreApart, has_text, first_word, last_clock, both_fail, left_fails, right_fails, said_to, left_config, open_tenants, with_tenants, tenant_in, admitted_in, closed_in, plus, admission_refusal, has_token, apart_behind, tenant_in-is, admitted-good, apart_left, apart_put, Said, OfHost, admission_of, admission_unless, begins_admission, begins_closing, closing_of, said_found, said_in, tenants_after, tenants_past, next_slot, may_be_given}
 use Rattle.cops_replay.proofs.AuditTexts.{each_at}
 use Rattle.cops_replay.proofs.HeadsBack.{AreAllApart, AreFit, IsFit, IsOfHead, IsToken, head_leads, head_read, of_head, parsed_token, written_head}
 

@@ -1,7 +1,5 @@
 -- The tenants who are open, by their places, and the slots of these places.
-use Rattle.std.proofs.Common.{◌≡◌, ℕ, zero, suc, ◌+◌, List, [], ◌∷◌, ◌++◌, length, map-id, refl, sym, ap, ◌∙◌, arith, slice_get, slice_index_or, Option, Some, None}
-use Rattle.cops_replay.proofs.Names.{range_with_len, slice_get_within, nat_tests, Config, Tenant, open_at, tenant_config, HasTenant, IsCluster, shape_of, Shared, AreNodesOf, audit_of, audit_text, his_nodes, AreNodesAt, audit_at, nodes_at, open_slots, open_tenants, slots_from, with_tenants, AreFormed}
-use Rattle.std.proofs.lemmas.List.FromFn.{get_or-range_with_len, length-range_with_len, map-range_with_len_more}
+use Rattle.cops_replay.proofs.Names.{◌≡◌, ℕ, zero, suc, ◌+◌, List, [], ◌∷◌, ◌++◌, length, map-id, refl, sym, ap, ◌∙◌, arith, slice_get, slice_index_or, Option, Some, None, range_with_len, slice_get_within, nat_tests, Config, Tenant, open_at, tenant_config, HasTenant, IsCluster, shape_of, Shared, AreNodesOf, audit_of, audit_text, his_nodes, AreNodesAt, audit_at, nodes_at, open_slots, open_tenants, slots_from, with_tenants, AreFormed, get_or-range_with_len, length-range_with_len, map-range_with_len_more}
 use Rattle.cops_replay.proofs.AuditTexts.{audit_text-same}
 
 -- ---- the slot of a place

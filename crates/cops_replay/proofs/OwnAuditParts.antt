@@ -1,9 +1,5 @@
 -- One tenant's part of the audit of a script is the one that is cut out of the whole.
-use Rattle.std.proofs.Common.{◌≡◌, ℕ, zero, suc, ◌+◌, Bool, true, false, cond, List, [], ◌∷◌, ◌++◌, length, map, refl, sym, subst, ap, ◌∙◌, append-nil, arith, Option, Some, None, flat_map, slice_get, slice_index_or}
-use Rattle.cops_replay.proofs.Names.{AllByRecursion, bytes_eq, nat_tests, flat_map-map, take_all, Config, Tenant, HeadReading, Whole, BadAt, head_of, cut_line, lines_of, has_name, open_at, open_slot_of_name, slot_of_name, TenantConfig, tenant_config, bytes_from_test, same_value, SoloNode, Written, cluster_left, life_left, setup_left, found_at, Layout, Today, Record, PartRefusal, audit_after, audit_out, AreFormed, AreFormedFor, his_records, audit_text, ended, records_of, records_text, tenants_text, left_config, left_nodes, open_tenants, slots_from, with_tenants, IsOpenIn, IsOwnAudit, IsOwnAuditAfter, IsOwnAuditOf, RefusesOwnAuditAfter, RefusesOwnAuditOf, own_records, own_audit_text, IsPartBy, IsPartOf, RefusesPartBy, RefusesPartOf, layout_lines, lone_head_lines, record_line, HasLine, alone_lines, head_by, layout_of, longest_record, seen_lines}
-use Rattle.cops_types.specs.OpenSlots.{first_from}
-use Rattle.cops_replay.specs.declared.refusals.PartRefusal.TheVariants.{BadConfig, UnknownTenant}
-use Rattle.cops_replay.specs.OwnParts.{part_text}
+use Rattle.cops_replay.proofs.Names.{◌≡◌, ℕ, zero, suc, ◌+◌, Bool, true, false, cond, List, [], ◌∷◌, ◌++◌, length, map, refl, sym, subst, ap, ◌∙◌, append-nil, arith, Option, Some, None, flat_map, slice_get, slice_index_or, AllByRecursion, bytes_eq, nat_tests, flat_map-map, take_all, Config, Tenant, HeadReading, Whole, BadAt, head_of, cut_line, lines_of, has_name, open_at, open_slot_of_name, slot_of_name, TenantConfig, tenant_config, bytes_from_test, same_value, SoloNode, Written, cluster_left, life_left, setup_left, found_at, Layout, Today, Record, PartRefusal, audit_after, audit_out, AreFormed, AreFormedFor, his_records, audit_text, ended, records_of, records_text, tenants_text, left_config, left_nodes, open_tenants, slots_from, with_tenants, IsOpenIn, IsOwnAudit, IsOwnAuditAfter, IsOwnAuditOf, RefusesOwnAuditAfter, RefusesOwnAuditOf, own_records, own_audit_text, IsPartBy, IsPartOf, RefusesPartBy, RefusesPartOf, layout_lines, lone_head_lines, record_line, HasLine, alone_lines, head_by, layout_of, longest_record, seen_lines, first_from, BadConfig, UnknownTenant, part_text}
 use Rattle.cops_replay.proofs.AuditLines.{head_known, lines_his, named_at}
 use Rattle.cops_replay.proofs.HeadsBack.{written_head}
 use Rattle.cops_replay.proofs.HeadTexts.{head_text_is, text_is_todays, text_reads_back}

@@ -1,13 +1,6 @@
 -- Text that is put, piece by piece.
-use Rattle.std.proofs.Common.{◌≡◌, ℕ, List, [], ◌++◌, Option, Result, Ok, Err, refl, sym, subst, ap, ◌∙◌, append_assoc, append-nil, arith, IfErr}
-use Rattle.cops_replay.proofs.Names.{Appends, nat_tests, AppendsFront, AppendsFront-more, page}
-use Rattle.std.proofs.KnownBytes.{Appends-nil, Appends-trans}
-use Rattle.cops_types.specs.declared.request_errors.RequestError.{RequestError}
-use Rattle.cops_types.specs.declared.faults.Fault.TheVariants.{WriteFault}
-use Rattle.cops_types.specs.declared.request_errors.RequestError.TheVariants.{OutOfMemory, Refused}
-use Rattle.cops_types.specs.Counts.{HasRisen}
-use Rattle.cops_types.specs.RequestErrors.{IfRefusal, OnRefusal}
-use Rattle.cops_replay.specs.Pages.{FailsBy, Page, PutsText}
+use Rattle.cops_replay.proofs.Names.{◌≡◌, ℕ, List, [], ◌++◌, Option, Result, Ok, Err, refl, sym, subst, ap, ◌∙◌, append_assoc, append-nil, arith, IfErr, Appends, nat_tests, AppendsFront, AppendsFront-more, page, Appends-nil, Appends-trans, RequestError, WriteFault, OutOfMemory, HasRisen, IfRefusal, OnRefusal, FailsBy, Page, PutsText}
+use Rattle.cops_types.specs.declared.request_errors.RequestError.TheVariants.{Refused}
 
 -- nothing is written
 pub front_of_none : (contents : Option (List ℕ)) (text : List ℕ) → AppendsFront contents contents text

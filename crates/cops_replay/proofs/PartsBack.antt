@@ -1,11 +1,5 @@
 -- A tenant's own part of an audit is an audit of the same layout, with the same part.
-use Rattle.std.proofs.Common.{◌≡◌, ℕ, zero, suc, ◌+◌, ◌≤◌, Bool, true, false, cond, inl, inr, List, [], ◌∷◌, ◌++◌, length, map, take, refl, sym, subst, ap, ◌∙◌, arith, Some}
-use Rattle.cops_replay.proofs.Names.{AllByRecursion, option_and_then, bytes_eq, take_all, nat_tests, Config, Tenant, Front, AtStart, Within, Begun, Whole, head_with, begin_line, cluster_line, cut_line, lines_of, slot_of_name, tenant_config, first_word, newline, Every-filter, tenant_fits, Lacks, bytes_from_test, lacks_from_test, same_bytes, same_value, found_at, short_name, Layout, Today, Early, ReplayRefusal, layout_line, with_tenants, IsPartOf, layout_lines, lone_head_lines, front_by, HasPart, IsReplayOf, RefusesReplayOf, alone_lines, head_by, layout_of, longest_record, seen_lines}
-use Rattle.std.proofs.lemmas.List.{length-take}
-use Rattle.cops_types.specs.HeadLines.{tenant_in_to}
-use Rattle.cops_types.proofs.Elements.{Every-map, Every-weaker}
-use Rattle.cops_types.proofs.HeadLemmas.{tenant_in_to-finds}
-use Rattle.cops_model.specs.MainTheorem.{with_tenant_alone}
+use Rattle.cops_replay.proofs.Names.{◌≡◌, ℕ, zero, suc, ◌+◌, ◌≤◌, Bool, true, false, cond, inl, inr, List, [], ◌∷◌, ◌++◌, length, map, take, refl, sym, subst, ap, ◌∙◌, arith, Some, AllByRecursion, option_and_then, bytes_eq, take_all, nat_tests, Config, Tenant, Front, AtStart, Within, Begun, Whole, head_with, begin_line, cluster_line, cut_line, lines_of, slot_of_name, tenant_config, first_word, newline, Every-filter, tenant_fits, Lacks, bytes_from_test, lacks_from_test, same_bytes, same_value, found_at, short_name, Layout, Today, Early, ReplayRefusal, layout_line, with_tenants, IsPartOf, layout_lines, lone_head_lines, front_by, HasPart, IsReplayOf, RefusesReplayOf, alone_lines, head_by, layout_of, longest_record, seen_lines, length-take, tenant_in_to, Every-map, Every-weaker, tenant_in_to-finds, with_tenant_alone}
 use Rattle.cops_replay.proofs.AuditHeads.{follows_by, head_holds, last_in, last_small, read_once, read_whole, reading_by}
 use Rattle.cops_replay.proofs.HeadsBack.{IsFit, IsOfHead, StandsIn, cluster_lacks, follows_stands, lines_of-lack, lines_of-lines, lines_of-more, tenant_lacks, tenant_written, written_tenant}
 use Rattle.cops_replay.proofs.OldFronts.{FollowsTo}

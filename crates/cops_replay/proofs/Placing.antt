@@ -1,8 +1,5 @@
 -- The text of a record in parts, and texts of records that are put at a place.
-use Rattle.std.proofs.Common.{◌≡◌, ℕ, not, List, [], ◌∷◌, ◌++◌, refl, sym, ap, ◌∙◌, append_assoc, arith, IsTrue, codes, decimal}
-use Rattle.cops_replay.proofs.Names.{nat_tests, no_words, space, spaced, NodeCall, NodeReply, Found, NodeId, Record, call_words, reply_words, node_text, record_line}
-use Rattle.cops_model.specs.declared.calls.NodeCall.TheVariants.{Get}
-use Rattle.cops_replay.specs.Room.{front_text}
+use Rattle.cops_replay.proofs.Names.{◌≡◌, ℕ, not, List, [], ◌∷◌, ◌++◌, refl, sym, ap, ◌∙◌, append_assoc, arith, IsTrue, codes, decimal, nat_tests, no_words, space, spaced, NodeCall, NodeReply, Found, NodeId, Record, call_words, reply_words, node_text, record_line, Get, front_text}
 
 abbrev pub HasWords : List (List ℕ) → Type 0
 HasWords words = IsTrue (not (no_words words))

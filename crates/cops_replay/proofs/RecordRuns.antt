@@ -1,11 +1,5 @@
 -- What a replay finds over a tenant's lines, as they are cut.
-use Rattle.std.proofs.Common.{◌≡◌, ℕ, ◌+◌, ◌<◌, ◌≤◌, Bool, true, false, ◌&&◌, ◌||◌, cond, List, [], ◌∷◌, ◌++◌, length, map, take, inl, inr, ◌⊎◌, refl, sym, subst, ap, ◌∙◌, arith, length-take, Option, Some, None, nat_le, codes, decimal}
-use Rattle.cops_replay.proofs.Names.{list_any, is_none, bytes_eq, nat_tests, take_all, counted, Run, cut_line, TenantConfig, first_word, newline, or_right, SoloNode, Layout, Today, Early, Record, Replayed, FirstDifference, old_record_in, record_by, nodes_after, AreLoneNodes, IsReplayedLine, Standing, found_of, FindsBy, alone_lines, is_great_in, longest_record, replayed_text, told_number, told_of}
-use Rattle.std.specs.Option.{option_map}
-use Rattle.cops_script.proofs.CutLemmas.{same_first_at}
-use Rattle.cops_replay.specs.VersionLayouts.{is_old_record, versions_in}
-use Rattle.cops_replay.specs.Replayings.{Differs, Passes}
-use Rattle.cops_replay.specs.ReplayRules.{ReplaysOwn, replay_lines}
+use Rattle.cops_replay.proofs.Names.{◌≡◌, ℕ, ◌+◌, ◌<◌, ◌≤◌, Bool, true, false, ◌&&◌, ◌||◌, cond, List, [], ◌∷◌, ◌++◌, length, map, take, inl, inr, ◌⊎◌, refl, sym, subst, ap, ◌∙◌, arith, length-take, Option, Some, None, nat_le, codes, decimal, list_any, is_none, bytes_eq, nat_tests, take_all, counted, Run, cut_line, TenantConfig, first_word, newline, or_right, SoloNode, Layout, Today, Early, Record, Replayed, FirstDifference, old_record_in, record_by, nodes_after, AreLoneNodes, IsReplayedLine, Standing, found_of, FindsBy, alone_lines, is_great_in, longest_record, replayed_text, told_number, told_of, option_map, same_first_at, is_old_record, versions_in, Differs, Passes, ReplaysOwn, replay_lines}
 use Rattle.cops_replay.proofs.AuditHeads.{by_test}
 
 -- ---- lines, as they are cut

@@ -1,12 +1,7 @@
 -- What a replay comes to over a whole file.
-use Rattle.std.proofs.Common.{◌≡◌, ℕ, true, false, ◌||◌, ◌≤◌, List, [], ◌∷◌, ◌++◌, length, inl, inr, refl, sym, subst, ap, ◌∙◌, append-nil, arith, Option, Some, None, IfSome, slice_get}
-use Rattle.std.specs.Prelude.{⊤}
-use Rattle.cops_replay.proofs.Names.{list_any, bytes_eq, Appends, Keeps, Config, Tenant, AtStart, Whole, lines_of, cut_line, AppendsFront, slot_of_name, tenant_config, first_word, or_right, both_fail, RunFault, AnswersAll, IfRunRefused, StopsEarly, AppendsFront-nil, AuditMachine, Layout, Early, ReplayRefusal, Replayed, IsAtHead, audit_rules, fresh_nodes, Standing, found_of, FindsBy, IsRefusedBy, IsReplayBy, IsReplayOf, RefusesReplayOf, alone_lines, head_by, is_great_in, longest_record, starts_great_in}
+use Rattle.cops_replay.proofs.Names.{◌≡◌, ℕ, true, false, ◌||◌, ◌≤◌, List, [], ◌∷◌, ◌++◌, length, inl, inr, refl, sym, subst, ap, ◌∙◌, append-nil, arith, Option, Some, None, IfSome, slice_get, ⊤, list_any, bytes_eq, Appends, Keeps, Config, Tenant, AtStart, Whole, lines_of, cut_line, AppendsFront, slot_of_name, tenant_config, first_word, or_right, both_fail, RunFault, AnswersAll, IfRunRefused, StopsEarly, AppendsFront-nil, AuditMachine, Layout, Early, ReplayRefusal, Replayed, IsAtHead, audit_rules, fresh_nodes, Standing, found_of, FindsBy, IsRefusedBy, IsReplayBy, IsReplayOf, RefusesReplayOf, alone_lines, head_by, is_great_in, longest_record, starts_great_in, ClockTooGreat, ReplaysOf, IsNotBegun, RefusesOwn, replay_rules, ReplaysFront}
+use Rattle.cops_replay.specs.declared.refusals.ReplayRefusal.TheVariants.{BadConfig, UnknownTenant}
 use Rattle.cops_script.specs.declared.line_runs.fault.RunFault.TheVariants as fault
-use Rattle.cops_replay.specs.declared.refusals.ReplayRefusal.TheVariants.{BadConfig, UnknownTenant, ClockTooGreat}
-use Rattle.cops_replay.specs.declared.replay_runs.ReplaysOf.{ReplaysOf}
-use Rattle.cops_replay.specs.ReplayRules.{IsNotBegun, RefusesOwn, replay_rules}
-use Rattle.cops_replay.specs.ReplayText.{ReplaysFront}
 use Rattle.cops_replay.proofs.AuditHeads.{short_in}
 use Rattle.cops_replay.proofs.EarlySteps.{by_its_rules}
 use Rattle.cops_replay.proofs.FileRuns as runs

@@ -1,19 +1,5 @@
 -- No line in the audit of a script is too long.
-use Rattle.std.proofs.Common.{◌≡◌, ℕ, ◌+◌, ◌≤◌, List, [], ◌∷◌, length, map, sym, subst, arith, IsTrue, Some, nat_le, slice_get, slice_index_or, Option}
-use Rattle.cops_replay.proofs.Names.{AllByRecursion, nat_tests, Config, Tenant, Whole, head_of, TenantConfig, tenant_config, Every-append, begun_with, open_at, AuditEntry, NodeId, id_of, SoloNode, said_to, life_left, setup_left, Record, record_of, records_from, left_config, left_nodes, open_slots, is_record, record_line, HasLine, longest_record, AreFormed, HaveLines, his_records}
-use Rattle.cops_types.specs.Key.{is_name}
-use Rattle.cops_model.specs.Events.{cluster_of, config_at, own}
-use Rattle.cops_script.specs.Lives.{of_lives, with_all_lives, Lives, first_lives, lives_after, lives_past}
-use Rattle.cops_model.specs.ListLimits.{HasFew, HasFewInAudit}
-use Rattle.cops_causal.proofs.AuditLists.{audits_few}
-use Rattle.cops_causal.proofs.Attempts.{Every-front}
-use Rattle.cops_script.specs.Script.{events_in, said_by_lines}
-use Rattle.cops_script.proofs.WholeHeads.{few_deps, shards_of}
-use Rattle.cops_script.proofs.ApartTenants.{name_of}
-use Rattle.cops_script.specs.Said.{said_in, tenants_after, tenants_past}
-use Rattle.cops_script.proofs.Numbered.{AreNumbered, AreOf, next_numbered, numbered_first, of_all_lives}
-use Rattle.cops_script.proofs.SaidLines.{said_in-placed}
-use Rattle.cops_script.proofs.TenantConfigs.{quota_at}
+use Rattle.cops_replay.proofs.Names.{◌≡◌, ℕ, ◌+◌, ◌≤◌, List, [], ◌∷◌, length, map, sym, subst, arith, IsTrue, Some, nat_le, slice_get, slice_index_or, Option, AllByRecursion, nat_tests, Config, Tenant, Whole, head_of, TenantConfig, tenant_config, Every-append, begun_with, open_at, AuditEntry, NodeId, id_of, SoloNode, said_to, life_left, setup_left, Record, record_of, records_from, left_config, left_nodes, open_slots, is_record, record_line, HasLine, longest_record, AreFormed, HaveLines, his_records, is_name, cluster_of, config_at, own, of_lives, with_all_lives, Lives, first_lives, lives_after, lives_past, HasFew, HasFewInAudit, audits_few, Every-front, events_in, said_by_lines, few_deps, shards_of, name_of, said_in, tenants_after, tenants_past, AreNumbered, AreOf, next_numbered, numbered_first, of_all_lives, said_in-placed, quota_at}
 use Rattle.cops_replay.proofs.AuditLines.{head_known}
 use Rattle.cops_replay.proofs.HeadsBack.{written_head}
 use Rattle.cops_replay.proofs.LineLengths.{line_short}

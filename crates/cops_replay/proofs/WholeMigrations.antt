@@ -1,10 +1,5 @@
 -- An audit that both layouts have is migrated whole, and has the same head and the same records in both.
-use Rattle.std.proofs.Common.{◌≡◌, ℕ, ◌+◌, Bool, true, false, cond, List, [], ◌∷◌, ◌++◌, length, inl, inr, refl, sym, subst, ap, ◌∙◌, arith, Option, Some, None, IsTrue, flat_map, nat_le, Ok}
-use Rattle.cops_replay.proofs.Names.{AllByRecursion, list_all, nat_tests, Config, Tenant, Front, AtStart, Within, Begun, HeadReading, Whole, BadAt, is_begun, reading_from, IsTenantLineTo, is_tenant_to, lines_of, has_clocks_to, last_old_clock, old_front_after, old_reading_from, last_clock, front_after-finds, both, Record, ended, head_text, migrated_from, migrated_records, migration_of, record_fault, with_text, IsAuditInBoth, last_early_clock, old_record_in, record_in, IsEarlyLine, longest_record, told_number}
-use Rattle.std.specs.Option.{option_map}
-use Rattle.cops_types.specs.Head.{front_after}
-use Rattle.cops_script.proofs.HeadRuns.{read_once}
-use Rattle.cops_replay.specs.MigratedText.{ReadsAlike, whole_migration}
+use Rattle.cops_replay.proofs.Names.{◌≡◌, ℕ, ◌+◌, Bool, true, false, cond, List, [], ◌∷◌, ◌++◌, length, inl, inr, refl, sym, subst, ap, ◌∙◌, arith, Option, Some, None, IsTrue, flat_map, nat_le, Ok, AllByRecursion, list_all, nat_tests, Config, Tenant, Front, AtStart, Within, Begun, HeadReading, Whole, BadAt, is_begun, reading_from, IsTenantLineTo, is_tenant_to, lines_of, has_clocks_to, last_old_clock, old_front_after, old_reading_from, last_clock, front_after-finds, both, Record, ended, head_text, migrated_from, migrated_records, migration_of, record_fault, with_text, IsAuditInBoth, last_early_clock, old_record_in, record_in, IsEarlyLine, longest_record, told_number, option_map, front_after, read_once, ReadsAlike, whole_migration}
 use Rattle.cops_replay.proofs.EarlySteps.{early_record}
 use Rattle.cops_replay.proofs.MigrationLemmas.{front_goes, head_line, record_line_left}
 use Rattle.cops_replay.proofs.OldFronts.{FollowsTo, old_front_after-is}

@@ -1,10 +1,5 @@
 -- A replay of the lines of records finds what a replay of the records does. So a replay of a written audit says that all is the same.
-use Rattle.std.proofs.Common.{◌≡◌, ℕ, ◌+◌, List, [], ◌∷◌, map, ◌⊎◌, inl, inr, sym, subst, ap, ◌∙◌, length, refl, arith, IsTrue, if◌then◌else◌, Some, None, slice_get}
-use Rattle.std.specs.Option.{option_map}
-use Rattle.cops_replay.proofs.Names.{AllByRecursion, nat_tests, lines_of, TenantConfig, tenant_config, Config, Tenant, HeadReading, Whole, BadAt, head_of, same_value, SoloNode, Written, Record, Replayed, FirstDifference, Same, records_text, ReplaysSame, audit_text, tenants_text, left_config, left_nodes, record_in, is_record, record_line, Agrees, Finds, FindsFrom, fresh_nodes, nodes_after, HasLine, FindsBy, IsReplayBy, IsReplayOf, alone_lines, replayed_text, Today, ReplaysSameFor, audit_after, audit_out, AreFormed, AreFormedFor, HaveLines, SaysSame, SaysSameFor, his_records}
-use Rattle.cops_types.specs.Key.{is_name}
-use Rattle.cops_script.proofs.ApartTenants.{name_of}
-use Rattle.cops_replay.specs.ReplayText.{FindsIn, told_in}
+use Rattle.cops_replay.proofs.Names.{◌≡◌, ℕ, ◌+◌, List, [], ◌∷◌, map, ◌⊎◌, inl, inr, sym, subst, ap, ◌∙◌, length, refl, arith, IsTrue, if◌then◌else◌, Some, None, slice_get, option_map, AllByRecursion, nat_tests, lines_of, TenantConfig, tenant_config, Config, Tenant, HeadReading, Whole, BadAt, head_of, same_value, SoloNode, Written, Record, Replayed, FirstDifference, Same, records_text, ReplaysSame, audit_text, tenants_text, left_config, left_nodes, record_in, is_record, record_line, Agrees, Finds, FindsFrom, fresh_nodes, nodes_after, HasLine, FindsBy, IsReplayBy, IsReplayOf, alone_lines, replayed_text, Today, ReplaysSameFor, audit_after, audit_out, AreFormed, AreFormedFor, HaveLines, SaysSame, SaysSameFor, his_records, is_name, name_of, FindsIn, told_in}
 use Rattle.cops_replay.proofs.LinesBack.{spelled_back, text_lines}
 use Rattle.cops_replay.proofs.AuditLines.{head_known, lines_his, named_at}
 use Rattle.cops_replay.proofs.EarlyRecords.{none_great_today}

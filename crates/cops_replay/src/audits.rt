@@ -251,13 +251,7 @@ pub fn write_audit<W: Write>(
 fn open_tenants(alloc: Global, tenants: &[Option<Tenant>]) -> Result<Vec<Tenant>, AllocError>
     ensures { IfOk result (λ found. found.items ≡ open_tenants tenants.now) }
 {
-    let mut found = Vec::new(alloc);
-    for tenant in tenants {
-        if let Some(tenant) = tenant {
-            found.push(*tenant)?;
-        }
-    }
-    Ok(found)
+    tenants.iter().filter_map(|tenant| *tenant).collect(alloc)
 }
 
 /// Returns the slots that have a tenant, rising.

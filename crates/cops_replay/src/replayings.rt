@@ -47,6 +47,7 @@ impl Model for Replay {
 
 /// Returns `true` if a short line of layout 1 is a record that today's layout has too. Is refused
 /// if only a clock is too great.
+#[tactic(auto, using(crate::proofs::ReplayLemmas::early_line))]
 fn is_early(alloc: Global, line: &[u8]) -> Result<bool, RequestError>
     requires short { IsTrue (nat_le (length line.now) longest_record) }
     ensures early { IfOk result (λ early. MayAgree Early line.now early) }

@@ -1,7 +1,5 @@
-use Rattle.std.proofs.Common.{◌≡◌, Err, ap}
-use Rattle.std.proofs.lemmas.Option.{IfSome_then}
-use Rattle.std.proofs.lemmas.Result.{on_err_weaker, on_ok_weaker}
-use Rattle.cops_script.specs.declared.line_runs.fault.RunFault.TheVariants.{ReadFault, WriteFault}
+use Rattle.cops_replay.proofs.Names.{◌≡◌, Err, ap, IfSome_then, on_err_weaker, on_ok_weaker, ReadFault}
+use Rattle.cops_script.specs.declared.line_runs.fault.RunFault.TheVariants.{WriteFault}
 use Rattle.cops_replay.proofs.AuditRunLemmas.{tenants_read, bad_refused, both_ok, err_refused, no_own_front, nothing_kept, on_ok_any, says_part, writes_own, writes_own_front}
 use Rattle.cops_replay.proofs.audit_runs.audit_part_text.Goals as goal
 

@@ -1,5 +1,4 @@
-use Rattle.std.proofs.Common.{subst}
-use Rattle.cops_replay.proofs.Names.{Appends, on_ok_weaker, AppendsFront, sink_writer, shape_of}
+use Rattle.cops_replay.proofs.Names.{subst, Appends, on_ok_weaker, AppendsFront, sink_writer, shape_of}
 use Rattle.cops_replay.proofs.AuditReplays.{cluster_replays_same}
 use Rattle.cops_replay.proofs.OpenAuditLemmas.{AreOfWorld, formed_of_world, nodes_of_world, text_of_world}
 use Rattle.cops_replay.proofs.audit_runs.write_open.Goals as goal

@@ -1,4 +1,4 @@
-use Rattle.std.proofs.Common.{◌∙◌, sym, inr, refl, subst, IsTrue, is_some}
+use Rattle.cops_replay.proofs.Names.{◌∙◌, sym, inr, refl, subst, IsTrue, is_some}
 use Rattle.cops_replay.proofs.OwnAuditParts.{open_found}
 use Rattle.cops_replay.proofs.AuditRunLemmas.{opened_at}
 use Rattle.cops_replay.proofs.audit_runs.write_own.Goals as goal

@@ -1,5 +1,4 @@
-use Rattle.std.proofs.Common.{[], ◌∷◌}
-use Rattle.cops_replay.proofs.Names.{Appends, on_ok_weaker, AppendsFront, sink_writer, shape_of, AreNodesAt, audit_at, nodes_at, with_tenants, AreFormed}
+use Rattle.cops_replay.proofs.Names.{[], ◌∷◌, Appends, on_ok_weaker, AppendsFront, sink_writer, shape_of, AreNodesAt, audit_at, nodes_at, with_tenants, AreFormed}
 use Rattle.cops_replay.proofs.AuditReplays.{cluster_replays_same}
 use Rattle.cops_replay.proofs.AuditRunLemmas.{of_kept, of_shown, slot_nodes}
 use Rattle.cops_replay.proofs.audit_runs.write_slot.Goals as goal

@@ -1,5 +1,4 @@
-use Rattle.std.proofs.Common.{take}
-use Rattle.cops_replay.proofs.Names.{AllByRecursion, AuditFits}
+use Rattle.cops_replay.proofs.Names.{take, AllByRecursion, AuditFits}
 use Rattle.cops_replay.proofs.audits.audits_fit.Given as goal
 
 abbrev pub invariant-loop-node : goal.invariant-loop-node

@@ -1,4 +1,4 @@
-use Rattle.std.proofs.Common.{◌++◌, [], ◌∷◌, sym, ap, ◌∙◌}
+use Rattle.cops_replay.proofs.Names.{◌++◌, [], ◌∷◌, sym, ap, ◌∙◌}
 use Rattle.cops_replay.proofs.OpenLists.{one_more_first}
 use Rattle.cops_replay.proofs.audits.first_slots.Goals as goal
 

@@ -1,5 +1,4 @@
-use Rattle.std.proofs.Common.{◌≡◌}
-use Rattle.std.specs.List.{range_with_len}
+use Rattle.cops_replay.proofs.Names.{◌≡◌, range_with_len}
 use Rattle.cops_replay.proofs.audits.first_slots.Given as goal
 
 abbrev pub invariant-loop-slot : goal.invariant-loop-slot

@@ -1,5 +1,4 @@
-use Rattle.std.proofs.Common.{◌≡◌, ◌++◌, drop}
-use Rattle.cops_replay.specs.AuditText.{open_slots, slots_from}
+use Rattle.cops_replay.proofs.Names.{◌≡◌, ◌++◌, drop, open_slots, slots_from}
 use Rattle.cops_replay.proofs.audits.open_slots.Given as goal
 
 abbrev pub invariant-loop-slot : goal.invariant-loop-slot

@@ -1,5 +1,4 @@
-use Rattle.std.proofs.Common.{◌≡◌, ◌+◌, List, length, map, drop, sym, subst, ap, arith, Some, slice_get}
-use Rattle.cops_replay.proofs.Names.{drop_all, sink_failures, sink_writer, tenant_config, AuditEntry, solo_of, place_of, ended, record_of, records_text, page, record_line}
+use Rattle.cops_replay.proofs.Names.{◌≡◌, ◌+◌, List, length, map, drop, sym, subst, ap, arith, Some, slice_get, drop_all, sink_failures, sink_writer, tenant_config, AuditEntry, solo_of, place_of, ended, record_of, records_text, page, record_line}
 use Rattle.cops_replay.proofs.PageLemmas.{all_left, left_early, less_left, none_left}
 use Rattle.cops_replay.proofs.AuditTexts.{entries_left, left_from, AllFormed, reply_formed}
 use Rattle.cops_replay.proofs.audits.put_node.Goals as goal

@@ -1,5 +1,4 @@
-use Rattle.std.proofs.Common.{drop, map}
-use Rattle.cops_replay.proofs.Names.{sink_failures, sink_writer, tenant_config, solo_of, place_of, record_of, records_text, page}
+use Rattle.cops_replay.proofs.Names.{drop, map, sink_failures, sink_writer, tenant_config, solo_of, place_of, record_of, records_text, page}
 use Rattle.cops_replay.proofs.PageLemmas.{IsLeft}
 use Rattle.cops_replay.proofs.AuditTexts.{AllFormed}
 use Rattle.cops_replay.proofs.audits.put_node.Given as goal

@@ -1,5 +1,4 @@
-use Rattle.std.proofs.Common.{◌≡◌, ◌≤◌, ◌+◌, ◌<◌, ◌∙◌, length, drop, sym, ap, arith, Some, slice_get}
-use Rattle.cops_replay.proofs.Names.{drop_all, slice_get-get_or, slice_get_within, sink_failures, sink_writer, tenant_config, records_of, records_text, tenants_text, nodes_at, with_tenants, page}
+use Rattle.cops_replay.proofs.Names.{◌≡◌, ◌≤◌, ◌+◌, ◌<◌, ◌∙◌, length, drop, sym, ap, arith, Some, slice_get, drop_all, slice_get-get_or, slice_get_within, sink_failures, sink_writer, tenant_config, records_of, records_text, tenants_text, nodes_at, with_tenants, page}
 use Rattle.cops_replay.proofs.PageLemmas.{all_left, left_early, less_left, none_left}
 use Rattle.cops_replay.proofs.AuditTexts.{tenants_left, one_tenant_formed}
 use Rattle.cops_replay.proofs.audits.put_records.Goals as goal

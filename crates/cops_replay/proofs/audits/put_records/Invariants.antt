@@ -1,5 +1,4 @@
-use Rattle.std.proofs.Common.{drop}
-use Rattle.cops_replay.proofs.Names.{sink_failures, sink_writer, tenants_text, nodes_at, with_tenants, page}
+use Rattle.cops_replay.proofs.Names.{drop, sink_failures, sink_writer, tenants_text, nodes_at, with_tenants, page}
 use Rattle.cops_replay.proofs.PageLemmas.{IsLeft}
 use Rattle.cops_replay.proofs.AuditTexts.{AreFormedBelow}
 use Rattle.cops_replay.proofs.audits.put_records.Given as goal

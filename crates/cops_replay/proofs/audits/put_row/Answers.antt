@@ -1,5 +1,4 @@
-use Rattle.std.proofs.lemmas.Result.{err_from_is_err_and}
-use Rattle.cops_replay.proofs.Names.{sink_failures, sink_writer, ended, record_of, record_line}
+use Rattle.cops_replay.proofs.Names.{err_from_is_err_and, sink_failures, sink_writer, ended, record_of, record_line}
 use Rattle.cops_replay.proofs.AuditRunLemmas.{on_ok_any}
 use Rattle.cops_replay.proofs.PageLemmas.{Puts-lack}
 use Rattle.cops_replay.proofs.audits.put_row.Goals as goal

@@ -1,5 +1,4 @@
-use Rattle.std.proofs.Common.{◌≤◌, ◌+◌, ◌<◌, length, map, drop, sym, subst, ap, arith}
-use Rattle.cops_replay.proofs.Names.{sink_failures, sink_writer, tenant_config, id_of, solo_of, place_of, his_nodes, record_of, records_from, records_of, records_text, page}
+use Rattle.cops_replay.proofs.Names.{◌≤◌, ◌+◌, ◌<◌, length, map, drop, sym, subst, ap, arith, sink_failures, sink_writer, tenant_config, id_of, solo_of, place_of, his_nodes, record_of, records_from, records_of, records_text, page}
 use Rattle.cops_replay.proofs.PageLemmas.{all_left, left_early, less_left, none_left}
 use Rattle.cops_replay.proofs.AuditTexts.{his_node, no_node_left, nodes_left, place_there, AllFormed, nodes_formed}
 use Rattle.cops_replay.proofs.audits.put_tenant.Goals as goal

@@ -1,5 +1,4 @@
-use Rattle.std.proofs.Common.{drop}
-use Rattle.cops_replay.proofs.Names.{sink_failures, sink_writer, tenant_config, his_nodes, records_from, records_of, records_text, page}
+use Rattle.cops_replay.proofs.Names.{drop, sink_failures, sink_writer, tenant_config, his_nodes, records_from, records_of, records_text, page}
 use Rattle.cops_replay.proofs.PageLemmas.{IsLeft}
 use Rattle.cops_replay.proofs.AuditTexts.{AllFormed}
 use Rattle.cops_replay.proofs.audits.put_tenant.Given as goal

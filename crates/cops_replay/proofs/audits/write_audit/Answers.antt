@@ -1,5 +1,4 @@
-use Rattle.std.proofs.Common.{◌≡◌, ℕ, List, refl, subst, ◌∙◌}
-use Rattle.cops_replay.proofs.Names.{AllByRecursion, Whole, head_of, tenant_config, Config, shape_of, AuditFits, Shared, AllReplaySame, HaveLines, SaysSame, Appends, on_ok_weaker, AppendsFront, sink_writer, AreNodesOf, audit_of, his_nodes}
+use Rattle.cops_replay.proofs.Names.{◌≡◌, ℕ, List, refl, subst, ◌∙◌, AllByRecursion, Whole, head_of, tenant_config, Config, shape_of, AuditFits, Shared, AllReplaySame, HaveLines, SaysSame, Appends, on_ok_weaker, AppendsFront, sink_writer, AreNodesOf, audit_of, his_nodes}
 use Rattle.cops_replay.proofs.AuditReplays.{cluster_replays_same}
 use Rattle.cops_replay.proofs.WrittenAudits.{says_same}
 use Rattle.cops_replay.proofs.OpenLists.{AreFirst, formed_of_first, nodes_of_first, text_of_first}

@@ -1,5 +1,4 @@
-use Rattle.std.proofs.Common.{◌++◌, ◌∙◌, ap}
-use Rattle.cops_replay.proofs.Names.{on_ok_weaker, sink_failures, sink_writer, head_text, tenants_text, audit_at, nodes_at, with_tenants, page}
+use Rattle.cops_replay.proofs.Names.{◌++◌, ◌∙◌, ap, on_ok_weaker, sink_failures, sink_writer, head_text, tenants_text, audit_at, nodes_at, with_tenants, page}
 use Rattle.cops_replay.proofs.PageLemmas.{failed_at_last, failed_by, front_of_none, front_of_put, front_put, risen_by, whole_put}
 use Rattle.cops_replay.proofs.audits.write_audit_at.Goals as goal
 

@@ -1,5 +1,4 @@
-use Rattle.std.proofs.Common.{subst, ap, ◌∙◌}
-use Rattle.cops_replay.proofs.Names.{Appends, on_ok_weaker, AppendsFront, sink_writer, open_audit_of, open_slots, open_tenants}
+use Rattle.cops_replay.proofs.Names.{subst, ap, ◌∙◌, Appends, on_ok_weaker, AppendsFront, sink_writer, open_audit_of, open_slots, open_tenants}
 use Rattle.cops_replay.proofs.OpenAuditLemmas.{formed_of_found, nodes_of_found, open_replays, open_says, text_of_found}
 use Rattle.cops_replay.proofs.PageLemmas.{front_of_none}
 use Rattle.cops_replay.proofs.audits.write_open_audit.Goals as goal

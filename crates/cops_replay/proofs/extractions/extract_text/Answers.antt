@@ -1,7 +1,4 @@
-use Rattle.std.proofs.Common.{ap, ◌∙◌}
-use Rattle.cops_replay.proofs.Names.{MatchResult-weaker, on_ok_weaker, sink_writer}
-use Rattle.cops_types.specs.Source.{source_reader}
-use Rattle.cops_replay.specs.declared.extractions.PartOf.{PartOf}
+use Rattle.cops_replay.proofs.Names.{ap, ◌∙◌, MatchResult-weaker, on_ok_weaker, sink_writer, source_reader, PartOf}
 use Rattle.cops_replay.proofs.AuditRunLemmas.{on_err_any}
 use Rattle.cops_replay.proofs.ExtractionLines.{all_extracted, front_extracted, no_part, nothing_extracted, nothing_written}
 use Rattle.cops_replay.proofs.extractions.extract_text.Goals as goal

@@ -1,10 +1,5 @@
-use Rattle.std.specs.Prelude.{IfOk, IfSome, IsTrue, Option, None, Some, Result, Ok, Err}
-use Rattle.cops_replay.proofs.Names.{Config, layout_in, Layout}
-use Rattle.cops_script.specs.GoodHeads.{is_good}
-use Rattle.cops_script.specs.declared.line_runs.machine.Stop.{Stop}
+use Rattle.cops_replay.proofs.Names.{IfOk, IfSome, IsTrue, Option, None, Some, Result, Ok, Err, Config, layout_in, Layout, is_good, Stop, clocks_of_good, HaveClocks}
 use Rattle.cops_script.specs.declared.scripts.BadConfig.{BadConfig}
-use Rattle.cops_script.proofs.TenantConfigs.{clocks_of_good}
-use Rattle.cops_replay.specs.FileHeads.{HaveClocks}
 use Rattle.cops_replay.proofs.ReplayLemmas.{clocks_alone}
 use Rattle.cops_replay.proofs.file_heads.read_file_head.Goals as goal
 

@@ -1,4 +1,4 @@
-use Rattle.std.proofs.Common.{◌≡◌, ◌++◌, ◌∷◌, take, decimal, flat_map}
+use Rattle.cops_replay.proofs.Names.{◌≡◌, ◌++◌, ◌∷◌, take, decimal, flat_map}
 use Rattle.cops_replay.proofs.heads.push_numbers.Given as goal
 
 abbrev pub invariant-loop-number : goal.invariant-loop-number

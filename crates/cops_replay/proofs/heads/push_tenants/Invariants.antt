@@ -1,5 +1,4 @@
-use Rattle.std.proofs.Common.{◌≡◌, ◌++◌, take, flat_map}
-use Rattle.cops_replay.specs.AuditText.{tenant_text}
+use Rattle.cops_replay.proofs.Names.{◌≡◌, ◌++◌, take, flat_map, tenant_text}
 use Rattle.cops_replay.proofs.heads.push_tenants.Given as goal
 
 abbrev pub invariant-loop-tenant : goal.invariant-loop-tenant

@@ -1,5 +1,4 @@
-use Rattle.cops_types.specs.Lines.{lines_of}
-use Rattle.cops_replay.specs.ReplayText.{layout_of}
+use Rattle.cops_replay.proofs.Names.{lines_of, layout_of}
 use Rattle.cops_replay.proofs.OneAnswer.{one_text}
 use Rattle.cops_replay.proofs.laws.each_replay_has_one_result.Goals as goal
 

@@ -1,4 +1,4 @@
-use Rattle.cops_replay.specs.declared.layouts.Layout.TheVariants.{Early, Today}
+use Rattle.cops_replay.proofs.Names.{Early, Today}
 use Rattle.cops_replay.proofs.EarlyRecords.{replayed_alike}
 use Rattle.cops_replay.proofs.HeadTexts.{replays_alike, text_is_todays, text_reads_back}
 use Rattle.cops_replay.proofs.WholeMigrations.{alike}

@@ -1,8 +1,5 @@
-use Rattle.std.proofs.Common.{[], append-nil, refl, subst, sym}
-use Rattle.cops_script.specs.LineAnswers.{Answers}
-use Rattle.cops_replay.specs.declared.migrations.OldPart.{OldPart}
+use Rattle.cops_replay.proofs.Names.{[], append-nil, refl, subst, sym, Answers, OldPart, part_answers}
 use Rattle.cops_replay.specs.declared.migrations.OldPart.TheVariants.{Head}
-use Rattle.cops_replay.specs.MigratedText.{part_answers}
 use Rattle.cops_replay.proofs.migrations.answer_line.Goals as goal
 
 pub returns-in_default-clause-ok : goal.returns-in_default-clause-ok

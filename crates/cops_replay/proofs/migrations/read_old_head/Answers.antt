@@ -1,4 +1,4 @@
-use Rattle.std.proofs.Common.{sym, ◌∙◌, refl}
+use Rattle.cops_replay.proofs.Names.{sym, ◌∙◌, refl}
 use Rattle.cops_replay.proofs.OldFronts.{bad_said, goes_on, too_great}
 use Rattle.cops_replay.proofs.migrations.read_old_head.Goals as goal
 

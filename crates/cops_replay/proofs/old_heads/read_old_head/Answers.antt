@@ -1,4 +1,4 @@
-use Rattle.std.proofs.Common.{sym, ◌∙◌}
+use Rattle.cops_replay.proofs.Names.{sym, ◌∙◌}
 use Rattle.cops_replay.proofs.OldFronts.{bad_said, begin_said, begin_sized, more_said, still_sized}
 use Rattle.cops_replay.proofs.old_heads.read_old_head.Goals as goal
 

@@ -1,4 +1,4 @@
-use Rattle.std.proofs.Common.{sym, ◌∙◌}
+use Rattle.cops_replay.proofs.Names.{sym, ◌∙◌}
 use Rattle.cops_replay.proofs.AskedLines.{told_by_none}
 use Rattle.cops_replay.proofs.put_exchanges.is_told.Goals as goal
 

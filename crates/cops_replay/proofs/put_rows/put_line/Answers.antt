@@ -1,5 +1,4 @@
-use Rattle.std.proofs.Common.{◌∙◌, [], ◌∷◌, ◌++◌, ap}
-use Rattle.cops_replay.specs.Room.{packed_record}
+use Rattle.cops_replay.proofs.Names.{◌∙◌, [], ◌∷◌, ◌++◌, ap, packed_record}
 use Rattle.cops_replay.proofs.Placing.{line_placed}
 use Rattle.cops_replay.proofs.put_rows.put_line.Goals as goal
 

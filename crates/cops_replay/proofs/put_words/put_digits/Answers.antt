@@ -1,4 +1,4 @@
-use Rattle.std.proofs.Common.{arith}
+use Rattle.cops_replay.proofs.Names.{arith}
 use Rattle.cops_replay.proofs.PartLemmas.{bytes_small}
 use Rattle.cops_replay.proofs.put_words.put_digits.Goals as goal
 

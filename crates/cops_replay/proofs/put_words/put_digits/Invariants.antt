@@ -1,5 +1,4 @@
-use Rattle.std.proofs.Common.{◌≡◌, ◌+◌, ◌*◌, ◌++◌, take}
-use Rattle.cops_replay.specs.RecordText.{bytes_text}
+use Rattle.cops_replay.proofs.Names.{◌≡◌, ◌+◌, ◌*◌, ◌++◌, take, bytes_text}
 use Rattle.cops_replay.proofs.put_words.put_digits.Given as goal
 
 abbrev pub invariant-loop-byte : goal.invariant-loop-byte

@@ -1,4 +1,4 @@
-use Rattle.std.proofs.Common.{sym}
+use Rattle.cops_replay.proofs.Names.{sym}
 use Rattle.cops_replay.proofs.Placing.{entry_placed}
 use Rattle.cops_replay.proofs.put_words.put_entry.Goals as goal
 

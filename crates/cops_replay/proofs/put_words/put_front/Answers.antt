@@ -1,4 +1,4 @@
-use Rattle.std.proofs.Common.{◌++◌, ◌∙◌, ap, take}
+use Rattle.cops_replay.proofs.Names.{◌++◌, ◌∙◌, ap, take}
 use Rattle.cops_replay.proofs.Placing.{front_placed}
 use Rattle.cops_replay.proofs.put_words.put_front.Goals as goal
 

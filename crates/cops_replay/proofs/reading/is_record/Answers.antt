@@ -1,4 +1,4 @@
-use Rattle.cops_replay.specs.VersionLayouts.{versions_by}
+use Rattle.cops_replay.proofs.Names.{versions_by}
 use Rattle.cops_replay.proofs.ReadingLemmas.{not_read}
 use Rattle.cops_replay.proofs.reading.is_record.Goals as goal
 

@@ -1,4 +1,4 @@
-use Rattle.std.proofs.Common.{sym, ◌∙◌}
+use Rattle.cops_replay.proofs.Names.{sym, ◌∙◌}
 use Rattle.cops_replay.proofs.replay_runs.begin_replay.Goals as goal
 
 pub returns-in-Ok-clause-ok : goal.returns-in-Ok-clause-ok

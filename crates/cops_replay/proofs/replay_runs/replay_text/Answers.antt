@@ -1,7 +1,4 @@
-use Rattle.std.proofs.Common.{ap, ◌∙◌}
-use Rattle.cops_replay.proofs.Names.{MatchResult-weaker, on_ok_weaker, sink_writer}
-use Rattle.cops_types.specs.Source.{source_reader}
-use Rattle.cops_replay.specs.declared.replay_runs.ReplaysOf.{ReplaysOf}
+use Rattle.cops_replay.proofs.Names.{ap, ◌∙◌, MatchResult-weaker, on_ok_weaker, sink_writer, source_reader, ReplaysOf}
 use Rattle.cops_replay.proofs.AuditRunLemmas.{on_err_any}
 use Rattle.cops_replay.proofs.ReplayRunLemmas.{all_replayed, front_replayed, nothing_replayed, refused_for, unwritten}
 use Rattle.cops_replay.proofs.replay_runs.replay_text.Goals as goal

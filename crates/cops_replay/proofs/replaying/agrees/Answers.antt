@@ -1,5 +1,4 @@
-use Rattle.std.proofs.Common.{subst}
-use Rattle.cops_replay.specs.Replayings.{IsReplied}
+use Rattle.cops_replay.proofs.Names.{subst, IsReplied}
 use Rattle.cops_replay.proofs.ReplayLemmas.{compared, not_asked}
 use Rattle.cops_replay.proofs.replaying.agrees.Goals as goal
 

@@ -1,5 +1,4 @@
-use Rattle.std.proofs.Common.{◌≡◌, drop, List, slice_get, Some}
-use Rattle.cops_replay.proofs.Names.{Tenant, tenant_config, SoloNode, Replayed, Finds, FindsFrom, AreLoneNodes}
+use Rattle.cops_replay.proofs.Names.{◌≡◌, drop, List, slice_get, Some, Tenant, tenant_config, SoloNode, Replayed, Finds, FindsFrom, AreLoneNodes}
 use Rattle.cops_replay.proofs.replaying.replay.Given as goal
 
 abbrev pub invariant-loop-told : goal.invariant-loop-told

@@ -1,5 +1,4 @@
-use Rattle.std.proofs.Common.{subst}
-use Rattle.cops_replay.specs.Replayings.{IsReplied}
+use Rattle.cops_replay.proofs.Names.{subst, IsReplied}
 use Rattle.cops_replay.proofs.AskedLines.{line_not_replied, line_replied, line_without_call, line_without_reply}
 use Rattle.cops_replay.proofs.replayings.agrees.Goals as goal
 

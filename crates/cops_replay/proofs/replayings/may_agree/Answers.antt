@@ -1,5 +1,4 @@
-use Rattle.std.proofs.Common.{◌≤◌, length, subst, sym, arith, IsTrue, nat_le, true}
-use Rattle.cops_replay.proofs.Names.{nat_tests, longest_record, MayAgree}
+use Rattle.cops_replay.proofs.Names.{◌≤◌, length, subst, sym, arith, IsTrue, nat_le, true, nat_tests, longest_record, MayAgree}
 use Rattle.cops_replay.proofs.ReplayLemmas.{todays_line}
 use Rattle.cops_replay.proofs.replayings.may_agree.Goals as goal
 

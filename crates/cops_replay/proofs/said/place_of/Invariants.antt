@@ -1,4 +1,5 @@
-use Rattle.memchr.specs.Find.{Nowhere, Passes, is_byte}
+use Rattle.cops_replay.proofs.Names.{Nowhere, is_byte}
+use Rattle.memchr.specs.Find.{Passes}
 use Rattle.cops_replay.proofs.said.place_of.Given as goal
 
 abbrev pub invariant-loop-at : goal.invariant-loop-at

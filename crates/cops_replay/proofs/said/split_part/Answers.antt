@@ -1,5 +1,4 @@
-use Rattle.std.proofs.Common.{◌∙◌, ap}
-use Rattle.cops_replay.proofs.Names.{parts_at, parts-last, parts-more}
+use Rattle.cops_replay.proofs.Names.{◌∙◌, ap, parts_at, parts-last, parts-more}
 use Rattle.cops_replay.proofs.PartLemmas.{lacks_all}
 use Rattle.cops_replay.proofs.said.split_part.Goals as goal
 

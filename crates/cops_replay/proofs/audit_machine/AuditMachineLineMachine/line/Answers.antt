@@ -1,9 +1,4 @@
-use Rattle.std.proofs.Common.{◌≡◌, ℕ, Bool, false, List, [], refl, sym, subst, ◌∙◌, append-nil}
-use Rattle.cops_replay.proofs.Names.{Within, AuditRules, head_answers, line_answers, count_in, layout_in, tells_layout}
-use Rattle.cops_replay.specs.AuditFiles.{GoesOnAfter}
-use Rattle.cops_replay.specs.declared.audit_machine.AuditFile.{AuditFile}
-use Rattle.cops_replay.specs.declared.audit_machine.AuditFile.TheVariants.{Head}
-use Rattle.cops_replay.specs.declared.file_heads.FileHead.{FileHead}
+use Rattle.cops_replay.proofs.Names.{◌≡◌, ℕ, Bool, false, List, [], refl, sym, subst, ◌∙◌, append-nil, Within, AuditRules, head_answers, line_answers, count_in, layout_in, tells_layout, GoesOnAfter, AuditFile, Head, FileHead}
 use Rattle.cops_replay.proofs.audit_machine.AuditMachineLineMachine.line.Goals as goal
 
 goes_on : {B R F : Type 0} (rules : AuditRules B R F) (body : B) (file : AuditFile R) (head new : FileHead) (line before after : List ℕ) → file ≡ Head head → tells_layout (layout_in head) (count_in head) line ≡ false →

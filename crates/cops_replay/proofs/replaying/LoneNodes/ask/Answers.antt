@@ -1,5 +1,4 @@
-use Rattle.std.proofs.Common.{arith, subst, sym, ◌∙◌}
-use Rattle.cops_replay.specs.Replayings.{AreLoneNodes, Lone}
+use Rattle.cops_replay.proofs.Names.{arith, subst, sym, ◌∙◌, AreLoneNodes, Lone}
 use Rattle.cops_replay.proofs.ReplayLemmas.{not_fitting, number_small, replied}
 use Rattle.cops_replay.proofs.replaying.LoneNodes.ask.Goals as goal
 

@@ -1,6 +1,4 @@
-use Rattle.std.proofs.Common.{◌≡◌, ◌*◌, ◌∙◌, ◌∷◌, [], ap, arith, length, length-append, refl, subst, sym}
-use Rattle.cops_replay.proofs.Names.{tenant_config, place_of, id_of}
-use Rattle.cops_node.proofs.Fresh.{numbers_fit}
+use Rattle.cops_replay.proofs.Names.{◌≡◌, ◌*◌, ◌∙◌, ◌∷◌, [], ap, arith, length, length-append, refl, subst, sym, tenant_config, place_of, id_of, numbers_fit}
 use Rattle.cops_replay.proofs.ReplayLemmas.{AreNew, nodes_new, none_new, one_new}
 use Rattle.cops_replay.proofs.replaying.LoneNodes.new.Goals as goal
 

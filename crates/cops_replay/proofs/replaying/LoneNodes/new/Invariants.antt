@@ -1,5 +1,4 @@
-use Rattle.std.proofs.Common.{◌≡◌, length}
-use Rattle.cops_types.specs.TenantConfig.{tenant_config}
+use Rattle.cops_replay.proofs.Names.{◌≡◌, length, tenant_config}
 use Rattle.cops_replay.proofs.ReplayLemmas.{AreNew}
 use Rattle.cops_replay.proofs.replaying.LoneNodes.new.Given as goal
 

@@ -1,5 +1,4 @@
-use Rattle.std.proofs.Common.{◌≡◌, ◌∙◌, ◌∷◌, [], refl, subst, sym, Some}
-use Rattle.cops_replay.proofs.Names.{Tenant, tenant_config, fresh_nodes, AreLoneNodes}
+use Rattle.cops_replay.proofs.Names.{◌≡◌, ◌∙◌, ◌∷◌, [], refl, subst, sym, Some, Tenant, tenant_config, fresh_nodes, AreLoneNodes}
 use Rattle.cops_replay.proofs.ReplayLemmas.{clock_at}
 use Rattle.cops_replay.proofs.replayings.Replay.begin.Goals as goal
 

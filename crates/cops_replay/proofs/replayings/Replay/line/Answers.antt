@@ -1,5 +1,4 @@
-use Rattle.std.proofs.Common.{subst}
-use Rattle.cops_replay.specs.Replayings.{MayAgree, Standing}
+use Rattle.cops_replay.proofs.Names.{subst, MayAgree, Standing}
 use Rattle.cops_replay.proofs.ReplayLemmas.{over_line, read_line, unread_line}
 use Rattle.cops_replay.proofs.replayings.Replay.line.Goals as goal
 
