@@ -10,7 +10,7 @@ use crate::faults::CliFault;
 use crate::serve::serve;
 use crate::serve_lives::serve_lives;
 use cops_replay::{audit_part_text, audit_text_in, extract_text, migrate_text, replay_text};
-use cops_script::{AllLines, ScriptMachine, TURNS, new_script, run_script_in};
+use cops_script::{TURNS, run_script_in};
 use cops_types::{Sink, Source};
 use cops_world::{World, solo_script};
 use std::alloc::Global;
@@ -32,11 +32,11 @@ fn run<R: Read, O: Write>(
         (streams R.remaining O.contents source.old sink.old)
         (streams R.remaining O.contents source.new sink.new) result }
 {
-    let mut script: ScriptMachine<AllLines, World> = new_script(AllLines);
-    let ended = run_script_in(alloc, TURNS, source, sink, &mut script);
-    // The process ends soon, and frees its memory at once. Freeing each record, queue entry and
-    // audit row by itself took up to a quarter of the time of a run.
-    mem::forget(script);
+    let mut world: Option<World> = None;
+    let ended = run_script_in(alloc, TURNS, source, sink, &mut world);
+    // The process ends soon, and frees its memory at once. Freeing records, queue entries and audit
+    // rows one by one took up to a quarter of a run's time.
+    mem::forget(world);
     ended?;
     Ok(())
 }
@@ -197,7 +197,7 @@ pub(crate) fn answer<T, S: AsStr, R: Read, O: Write>(
 where
     T: Net<Listener = TcpListener, Stream = TcpStream> + Threads + Wait + Clock + Sync,
     T: Hosted + Eprint,
-    // The words are refused, and nothing is read or written; or the command that they ask for ends.
+    // Either the words are refused, and nothing is read or written. Or the command that they ask for ends.
     ensures ends { IsErrAnd result (RefusesTask (map S.text words.now)
         (streams R.remaining O.contents source.old sink.old)
         (streams R.remaining O.contents source.new sink.new))

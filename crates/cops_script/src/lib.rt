@@ -22,7 +22,6 @@ mod solo_runs;
 mod solo_scripts;
 mod texts;
 
-pub use head_machine::{ScriptMachine, new_script};
 pub use heads::read_config;
 pub use laws::{
     line_is_one_act, long_line_may_be_cut, replies_begin_as_defined, rules_give_one_meaning,
@@ -32,7 +31,6 @@ pub use line_runs::{LineMachine, RunFault, Stop, run_lines};
 pub use lines::parse_act;
 pub use lone_tenants::with_tenant_alone;
 pub use runs::{Tenancy, as_reply, run_all};
-pub use script_machine::AllLines;
 pub use script_runs::{LONGEST_LINE, TURNS, run_script_in};
 pub use script_worlds::script_world_in;
 pub use scripts::{BadConfig, HeadSoFar, read_head};

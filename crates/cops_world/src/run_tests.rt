@@ -6,7 +6,7 @@ ghost use Rattle.cops_script.specs.GoodHeads.{is_good};
 use crate::test_streams::{Endless, Pieces, Trickle};
 use crate::test_worlds::{config_of, event_of, row, says};
 use crate::{Event, Reply, World, run, run_script, run_world, solo};
-use cops_script::{AllLines, BadConfig, RunFault, ScriptMachine, new_script, run_script_in};
+use cops_script::{BadConfig, RunFault, run_script_in};
 use cops_types::{Config, Fault, Sink, Source, Tenants};
 use std::alloc::{AllocError, Global};
 use std::process::Abort;
@@ -278,8 +278,8 @@ fn refused_memory_leaves_a_prefix_of_the_replies(rt: HostRuntime) {
 fn assert_endless(rt: &impl Abort, alloc: Global, bytes: &[u8], answer: &[u8]) {
     let mut source = Source::new(Endless { bytes });
     let mut sink = Sink::new(Vec::new(alloc));
-    let mut script: ScriptMachine<AllLines, World> = new_script(AllLines);
-    let ran = run_script_in(alloc, 100, &mut source, &mut sink, &mut script);
+    let mut world: Option<World> = None;
+    let ran = run_script_in(alloc, 100, &mut source, &mut sink, &mut world);
     assert!(rt; code(ran) == 26);
     assert!(rt; source.reads() == 100 && source.failures() == 0);
     assert!(rt; sink.into_inner().as_slice() == answer);

@@ -10,7 +10,7 @@ ghost use Rattle.cops_script.specs.LineRuns.{IfRunRefused};
 ghost use Rattle.cops_script.specs.ScriptRuns.{WritesFront, WritesScript};
 
 use crate::World;
-use cops_script::{AllLines, BadConfig, RunFault, ScriptMachine, TURNS, new_script, run_script_in};
+use cops_script::{BadConfig, RunFault, TURNS, run_script_in};
 use cops_types::{Sink, Source};
 use std::alloc::Global;
 use std::io::{Read, Write};
@@ -47,6 +47,6 @@ pub fn run_script<R: Read, O: Write>(
     ensures write_fault { IsErrOf result RunFault.WriteFault →
         HasRisen (sink_failures sink.old) (sink_failures sink.new) }
 {
-    let mut script: ScriptMachine<AllLines, World> = new_script(AllLines);
-    run_script_in(alloc, TURNS, source, sink, &mut script)
+    let mut world: Option<World> = None;
+    run_script_in(alloc, TURNS, source, sink, &mut world)
 }
