@@ -66,7 +66,7 @@ fn text_of(cause: Cause) -> &'static str
     }
 }
 
-/// Says why the head wasn't read.
+/// Reports that the head couldn't be read.
 pub(crate) fn tell_of_head<R: Eprint>(rt: &R, fault: &RunFault<BadConfig>) {
     if matches!(fault, RunFault::ReadFault) {
         let _ = eprintln!(rt; "cops: cannot read standard input");
@@ -79,9 +79,12 @@ where
     R: Net<Listener = TcpListener, Stream = TcpStream> + Eprint,
     ensures { IfErr result (λ fault. fault ≡ CliFault.ReadFault) }
 {
-    let Ok(listener) = TcpListener::bind(rt, address) else {
-        let _ = eprintln!(rt; "cops: cannot listen on {address}");
-        return Err(CliFault::ReadFault);
+    let listener = match TcpListener::bind(rt, address) {
+        Ok(listener) => listener,
+        Err(error) => {
+            let _ = eprintln!(rt; "cops: cannot listen on {address}: {error}");
+            return Err(CliFault::ReadFault);
+        }
     };
     if let Ok(bound) = listener.local_addr() {
         let _ = eprintln!(rt; "cops: listening on {bound}");
@@ -94,7 +97,7 @@ pub(crate) fn shared<T: Drop>(alloc: Global, value: T) -> Result<Arc<T, Global>,
     Ok(Arc::new(alloc, value)?)
 }
 
-/// Returns what ends the service that listens here.
+/// Returns the stop signal of the service that listens here.
 pub(crate) fn stop_at<R: Eprint>(rt: &R, listener: &TcpListener) -> Result<Stop, CliFault>
     ensures { IfErr result (λ fault. fault ≡ CliFault.ReadFault) }
 {
@@ -105,7 +108,7 @@ pub(crate) fn stop_at<R: Eprint>(rt: &R, listener: &TcpListener) -> Result<Stop,
     Ok(stop)
 }
 
-/// Lets a line of standard input end the service that listens here. So many lines have come before.
+/// Lets a line of standard input end the service that listens here. `lines` lines have come before.
 fn stop_of<R>(
     rt: &R,
     alloc: Global,
@@ -127,7 +130,7 @@ where
     Ok(stop)
 }
 
-/// Returns how the service is run.
+/// Returns the options of the service.
 pub(crate) fn options_of(service: &Service<'_>) -> Options
     ensures { result
         ≡ record { workers = service.now.workers; connections = service.now.connections; idle = service.now.idle } }
@@ -139,7 +142,7 @@ pub(crate) fn options_of(service: &Service<'_>) -> Options
     }
 }
 
-/// Serves clients at the address. So many lines of standard input have come before.
+/// Serves clients at the address. `lines` lines of standard input have come before.
 fn serve_clients<R>(
     rt: &R,
     alloc: Global,
@@ -181,7 +184,7 @@ where
     }
 }
 
-/// Says why a service left nothing: memory ran out, or a thread couldn't be started. Returns the fault.
+/// Reports a service that left nothing: memory ran out, or a thread couldn't be started. Returns the fault.
 pub(crate) fn told_failure<R: Eprint>(rt: &R, error: RequestError) -> CliFault
     ensures { result ≡ ended_serving_by error }
 {
@@ -194,7 +197,7 @@ pub(crate) fn told_failure<R: Eprint>(rt: &R, error: RequestError) -> CliFault
     }
 }
 
-/// Says what was served. Fails if a thread couldn't be started, since nothing was served then.
+/// Reports the counts. Fails if a thread couldn't be started, since nothing was served then.
 pub(crate) fn told_end<R: Eprint>(rt: &R, end: ServiceEnd, counts: Counts) -> Result<(), CliFault>
     ensures threads { OnOk result (end ≢ ServiceEnd.NoThread) }
     ensures stopped { IfErr result
@@ -243,8 +246,8 @@ fn conclude<R: Eprint, O: Write>(
     ensures write_fault { IsErrOf result CliFault.WriteFault →
         HasRisen (sink_failures sink.old) (sink_failures sink.new) }
 
-    // A replay of each tenant's records finds them all the same; of the text too, as `write_audit`
-    // says it.
+    // A replay of each tenant's records finds them all the same. So does a replay of the text, as in
+    // `write_audit`.
     ensures replays { AllReplaySame config.now (his_nodes config.now served.now.nodes.items) }
     ensures says_same { (lines rest : List (List ℕ)) → head_of lines ≡ Whole config.now rest →
         HaveLines config.now (his_nodes config.now served.now.nodes.items) →
