@@ -1,4 +1,4 @@
--- What standard error says of a connection that didn't end cleanly.
+-- The text on standard error for a connection that didn't end cleanly.
 use Rattle.std.specs.Prelude.{ℕ, List, codes}
 use Rattle.cops_service.specs.declared.reports.Cause.{Cause}
 use Rattle.cops_service.specs.declared.reports.Cause.TheVariants as cause

@@ -40,7 +40,7 @@ migrate = new_app (codes "migrate")
 abbrev pub address : Rule
 address = record (new_rule (codes "ADDRESS")) { required = true }
 
--- a number from the least to the greatest, and this text where none is given
+-- a number from the least to the greatest, and this text if none is given
 abbrev pub number : Text → ℕ → ℕ → Text → Rule
 number id least greatest given = record (new_rule id) { long = Some id; value_names = 1; parser = Some (Unsigned least greatest); defaults = given ∷ [] }
 
@@ -118,7 +118,7 @@ abbrev pub IsSpelledBy : Option Text → ℕ → Type 0
 IsSpelledBy None n = Unit {0}
 IsSpelledBy (Some text) n = IsNumeral 10 (without_leading_plus text) → digits_value 10 (without_leading_plus text) < 2 ^ 64 → n ≡ digits_value 10 (without_leading_plus text)
 
--- the flag is given where its text is `true`, and not where it is `false` or there is none
+-- the flag is given if its text is `true`, and not if the text is `false` or there is none
 abbrev pub IsFlagged : Option Text → Bool → Type 0
 IsFlagged found given =
     (found ≡ None → given ≡ false) × (found ≡ Some (codes "true") → given ≡ true) × (found ≡ Some (codes "false") → given ≡ false)

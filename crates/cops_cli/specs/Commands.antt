@@ -1,4 +1,4 @@
--- What each command of `cops` may end with, between a reader and a writer.
+-- The possible ends of each command of `cops`, between a reader and a writer.
 use Rattle.std.specs.Prelude.{◌≡◌, ◌⊎◌, ◌^◌, ⊤, ℕ, List, Option, Some, None, Result, Ok, Err, IfSome, Bool, true, false}
 use Rattle.std.specs.Io.KnownBytes.{Appends, IsAtEnd, Keeps}
 use Rattle.cops_types.specs.declared.configs.Config.{Config}
@@ -51,7 +51,7 @@ streams remaining contents source sink = record {
   write_failures = sink_failures sink;
 }
 
--- what a command may do between the streams before it and after it
+-- a command, by the streams before it and after it
 pub record CommandRules : Type 1 where
   -- if it succeeds
   pub does : Streams → Streams → Type 0
@@ -72,14 +72,14 @@ pub record MayFail (command : CommandRules) (old new : Streams) (ended : CliFaul
   pub why : IsOfDevices old new ended ⊎ command.refuses old new ended
   pub begun : command.begins old new
 
--- it may end so
+-- this is a possible end
 abbrev pub MayEnd : {T : Type 0} → CommandRules → Streams → Streams → Result T CliFault → Type 0
 MayEnd command old new (Ok done) = command.does old new
 MayEnd command old new (Err ended) = MayFail command old new ended
 
 -- ---- what is read and written
 
--- all is read, and it is written what belongs to it
+-- all is read, and the output that belongs to it is written
 abbrev pub ReadsAll : (List ℕ → Option (List ℕ) → Option (List ℕ) → Type 0) → Streams → Streams → Type 0
 ReadsAll Writes old new = IsAtEnd new.remaining × IfSome old.remaining (λ bytes. Writes bytes old.contents new.contents)
 
@@ -87,7 +87,7 @@ ReadsAll Writes old new = IsAtEnd new.remaining × IfSome old.remaining (λ byte
 abbrev pub WritesSomeOf : (List ℕ → Option (List ℕ) → Option (List ℕ) → Type 0) → Streams → Streams → Type 0
 WritesSomeOf Front old new = IfSome old.remaining (λ bytes. Front bytes old.contents new.contents)
 
--- the input is such, and nothing is written
+-- the input is of this kind, and nothing is written
 abbrev pub RefusesAll : (List ℕ → Type 0) → Streams → Streams → Type 0
 RefusesAll Is old new = IfSome old.remaining Is × Keeps old.contents new.contents
 
@@ -257,7 +257,7 @@ pub record RefusesTask (words : List (List ℕ)) (old new : Streams) (ended : Cl
   pub why : (ended ≡ OutOfMemory) ⊎ IsRefusedAs words ended
   pub same : new ≡ old
 
--- the words ask for this task, and its command may end so
+-- the words ask for this task, and this is a possible end of its command
 pub record EndsTask {T : Type 0} (words : List (List ℕ)) (old new : Streams) (result : Result T CliFault) : Type 0 where
   pub task : Task
   pub asked : IsAskedBy words task

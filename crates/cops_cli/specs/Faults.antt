@@ -1,4 +1,4 @@
--- What becomes of the faults of the calls that the program makes.
+-- The program's faults, from those of the calls that it makes.
 use Rattle.std.specs.Prelude.{◌≡◌, ◌≢◌, ⊤}
 use Rattle.clap.specs.Words.{kind_of}
 use Rattle.clap.specs.declared.error.Error.{Error}

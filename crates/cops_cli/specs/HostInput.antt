@@ -10,16 +10,16 @@ use Rattle.cops_service.specs.declared.host_lines.HostLine.TheVariants.{Admit, C
 abbrev pub meaning_of_line : List ℕ → HostLine
 meaning_of_line line = if bytes_eq line (codes "end") then End else option_map_or Admit (admitted_in line) (option_map_or Close (closed_in line) Unknown)
 
--- the most bytes of a line that are kept
+-- the most bytes of a line; further ones are dropped
 abbrev pub longest : ℕ
 longest = 256
 
--- a line with one byte more; none if it is longer than what is kept
+-- a line with one byte more; none if it is longer than that
 abbrev pub with_byte : ℕ → Option (List ℕ) → Option (List ℕ)
 with_byte byte None = None
 with_byte byte (Some line) = if nat_lt (length line) longest then Some (line ++ byte ∷ []) else None
 
--- what a whole line says; an empty one says nothing
+-- the meaning of a whole line; an empty one has none
 abbrev pub line_said : Option (List ℕ) → Option HostLine
 line_said None = Some Unknown
 line_said (Some []) = None

@@ -1,4 +1,4 @@
--- What the program does with its words.
+-- The program, by the words of its command line.
 use Rattle.std.specs.Prelude.{◌≡◌, ◌⊎◌, ℕ, List, Result, IfErr, IsErrAnd, IsSomeAnd, codes, slice_get}
 use Rattle.cops_cli.specs.CommandLine.{ArePlain}
 use Rattle.cops_cli.specs.Commands.{EndsTask, RefusesTask, Streams}
@@ -9,7 +9,7 @@ use Rattle.cops_cli.specs.declared.faults.CliFault.{CliFault}
 -- the words have an outcome, of which the exit status tells
 pub record EndsProgram (words : List (List ℕ)) (old new : Streams) (status : ℕ) : Type 0 where
   pub outcome : Result Unit CliFault
-  -- the words are refused, and nothing is read or written; or the command that they ask for ends so
+  -- either the words are refused, and nothing is read or written; or this is an end of the command that they ask for
   pub ends : IsErrAnd outcome (RefusesTask words old new) ⊎ EndsTask words old new outcome
   pub plain : ArePlain words → IfErr outcome (λ ended. IsOfWords ended → ⊥)
   pub status_is : status ≡ status_of outcome

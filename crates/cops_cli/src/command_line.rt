@@ -82,7 +82,7 @@ fn run_command<'a>(alloc: Global) -> Command<'a>
         .after_help(RUN_HELP)
 }
 
-/// The tenant's name.
+/// Returns the argument for a tenant's name.
 fn tenant_argument<'a>(alloc: Global) -> Arg<'a>
     ensures rule { rule_of result ≡ tenant }
     ensures local { result.global ≡ false }
@@ -92,7 +92,7 @@ fn tenant_argument<'a>(alloc: Global) -> Arg<'a>
         .required(true)
 }
 
-/// With the name of a tenant.
+/// Returns `solo`, with the name of a tenant.
 fn solo_command<'a>(alloc: Global) -> Result<Command<'a>, AllocError>
     ensures app { IfOk result (λ command. app_of command ≡ solo) }
     ensures no_globals { IfOk result (λ command. (out-Command command).has_globals ≡ false) }
@@ -104,7 +104,7 @@ fn solo_command<'a>(alloc: Global) -> Result<Command<'a>, AllocError>
         .arg(tenant)
 }
 
-/// The name of a tenant, which may be left out.
+/// Returns the option for the name of one tenant.
 fn only_tenant_argument<'a>(alloc: Global) -> Arg<'a>
     ensures rule { rule_of result ≡ only_tenant }
     ensures local { result.global ≡ false }
@@ -115,7 +115,7 @@ fn only_tenant_argument<'a>(alloc: Global) -> Arg<'a>
         .value_name("NAME")
 }
 
-/// With the name of a tenant, if one is given.
+/// Returns `audit`, with the name of a tenant if one is given.
 fn audit_command<'a>(alloc: Global) -> Result<Command<'a>, AllocError>
     ensures app { IfOk result (λ command. app_of command ≡ audit) }
     ensures no_globals { IfOk result (λ command. (out-Command command).has_globals ≡ false) }
@@ -127,7 +127,7 @@ fn audit_command<'a>(alloc: Global) -> Result<Command<'a>, AllocError>
         .arg(only)
 }
 
-/// With the name of a tenant.
+/// Returns `replay`, with the name of a tenant.
 fn replay_command<'a>(alloc: Global) -> Result<Command<'a>, AllocError>
     ensures app { IfOk result (λ command. app_of command ≡ replay) }
     ensures no_globals { IfOk result (λ command. (out-Command command).has_globals ≡ false) }
@@ -139,7 +139,7 @@ fn replay_command<'a>(alloc: Global) -> Result<Command<'a>, AllocError>
         .arg(tenant)
 }
 
-/// With the name of a tenant.
+/// Returns `extract`, with the name of a tenant.
 fn extract_command<'a>(alloc: Global) -> Result<Command<'a>, AllocError>
     ensures app { IfOk result (λ command. app_of command ≡ extract) }
     ensures no_globals { IfOk result (λ command. (out-Command command).has_globals ≡ false) }
@@ -160,7 +160,7 @@ fn migrate_command<'a>(alloc: Global) -> Command<'a>
         .after_help(MIGRATE_HELP)
 }
 
-/// Where to listen.
+/// Returns the argument for the address to listen at.
 fn address_argument<'a>(alloc: Global) -> Arg<'a>
     ensures rule { rule_of result ≡ address }
     ensures local { result.global ≡ false }
@@ -170,7 +170,7 @@ fn address_argument<'a>(alloc: Global) -> Arg<'a>
         .required(true)
 }
 
-/// A number from the least to the greatest, with this default.
+/// Returns an option for a number from the least to the greatest, with a default.
 fn number_argument<'a>(
     alloc: Global,
     id: &'a str,
@@ -191,7 +191,7 @@ fn number_argument<'a>(
         .default_value(given)
 }
 
-/// A flag.
+/// Returns a flag.
 fn flag_argument<'a>(alloc: Global, id: &'a str, help: &'a str) -> Arg<'a>
     ensures rule { rule_of result ≡ flag id.entry.now }
     ensures local { result.global ≡ false }
@@ -202,7 +202,7 @@ fn flag_argument<'a>(alloc: Global, id: &'a str, help: &'a str) -> Arg<'a>
         .action(ArgAction::SetTrue)
 }
 
-/// `serve` without its arguments.
+/// Returns `serve` without its arguments.
 fn bare_serve_command<'a>(alloc: Global) -> Command<'a>
     ensures app { app_of result ≡ new_app (codes "serve") }
     ensures no_globals { (out-Command result).has_globals ≡ false }
@@ -212,7 +212,7 @@ fn bare_serve_command<'a>(alloc: Global) -> Command<'a>
         .after_help(SERVE_HELP)
 }
 
-/// `serve` with an address and two numbers.
+/// Returns `serve` with an address and two numbers.
 fn numbered_serve_command<'a>(alloc: Global) -> Result<Command<'a>, AllocError>
     ensures app { IfOk result (λ command. app_of command ≡ numbered_serve) }
     ensures no_globals { IfOk result (λ command. (out-Command command).has_globals ≡ false) }
@@ -236,7 +236,7 @@ fn numbered_serve_command<'a>(alloc: Global) -> Result<Command<'a>, AllocError>
         .arg(connections)
 }
 
-/// `serve` with all its options.
+/// Returns `serve` with all its options.
 fn serve_command<'a>(alloc: Global) -> Result<Command<'a>, AllocError>
     ensures app { IfOk result (λ command. app_of command ≡ serve) }
     ensures no_globals { IfOk result (λ command. (out-Command command).has_globals ≡ false) }
@@ -253,7 +253,7 @@ fn serve_command<'a>(alloc: Global) -> Result<Command<'a>, AllocError>
         .arg(fixed)
 }
 
-/// With one subcommand so far.
+/// Returns the command line with its first subcommand.
 fn first_commands<'a>(alloc: Global) -> Result<Command<'a>, AllocError>
     ensures { IfOk result (λ command. app_of command ≡ with_run) }
 {
@@ -268,7 +268,7 @@ fn first_commands<'a>(alloc: Global) -> Result<Command<'a>, AllocError>
         .subcommand(run)
 }
 
-/// With two.
+/// Returns the command line with two subcommands.
 fn solo_commands<'a>(alloc: Global) -> Result<Command<'a>, AllocError>
     ensures { IfOk result (λ command. app_of command ≡ with_solo) }
 {
@@ -276,7 +276,7 @@ fn solo_commands<'a>(alloc: Global) -> Result<Command<'a>, AllocError>
     first_commands(alloc)?.subcommand(solo)
 }
 
-/// With three.
+/// Returns the command line with three subcommands.
 fn audit_commands<'a>(alloc: Global) -> Result<Command<'a>, AllocError>
     ensures { IfOk result (λ command. app_of command ≡ with_audit) }
 {
@@ -284,7 +284,7 @@ fn audit_commands<'a>(alloc: Global) -> Result<Command<'a>, AllocError>
     solo_commands(alloc)?.subcommand(audit)
 }
 
-/// With four.
+/// Returns the command line with four subcommands.
 fn replay_commands<'a>(alloc: Global) -> Result<Command<'a>, AllocError>
     ensures { IfOk result (λ command. app_of command ≡ with_replay) }
 {
@@ -292,7 +292,7 @@ fn replay_commands<'a>(alloc: Global) -> Result<Command<'a>, AllocError>
     audit_commands(alloc)?.subcommand(replay)
 }
 
-/// With five.
+/// Returns the command line with five subcommands.
 fn extract_commands<'a>(alloc: Global) -> Result<Command<'a>, AllocError>
     ensures { IfOk result (λ command. app_of command ≡ with_extract) }
 {
@@ -300,7 +300,7 @@ fn extract_commands<'a>(alloc: Global) -> Result<Command<'a>, AllocError>
     replay_commands(alloc)?.subcommand(extract)
 }
 
-/// With six.
+/// Returns the command line with six subcommands.
 fn migrate_commands<'a>(alloc: Global) -> Result<Command<'a>, AllocError>
     ensures { IfOk result (λ command. app_of command ≡ with_migrate) }
 {

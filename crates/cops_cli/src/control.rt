@@ -1,4 +1,4 @@
-//! Reads standard input after the head, on a thread of its own. With the head's tenants alone, the line `end` ends the service.
+//! Reads standard input after the head, on a thread of its own. If tenants are fixed, the line `end` ends the service.
 ghost use Rattle.std.specs.Prelude.{◌≡◌, ◌+◌, ◌-◌, ◌^◌, [], min, IfErr, Some};
 
 use crate::faults::CliFault;
@@ -22,7 +22,7 @@ pub(crate) trait Follows {
     fn finish(&mut self);
 }
 
-/// Follows standard input to its end.
+/// Passes the bytes of standard input to a follower, to the end.
 pub(crate) fn follow_all<R: Input, F: Follows>(rt: &R, follower: &mut F) {
     let mut reader = rt.reader();
     let mut buffer = [0u8; 4096];
@@ -43,7 +43,7 @@ pub(crate) fn follow_all<R: Input, F: Follows>(rt: &R, follower: &mut F) {
 
 /// A runtime that is the system's own, which a thread may take along.
 pub(crate) trait Hosted {
-    /// Returns it.
+    /// Returns the system's runtime.
     fn host(&self) -> HostRuntime;
 }
 
@@ -66,7 +66,7 @@ struct Ending<'a, R> {
 }
 
 impl<R: Eprint + Clock> Ending<'_, R> {
-    // The line is whole.
+    // Handles a whole line.
     fn end(&mut self)
         ensures count { self.new.count ≡ min (self.old.count + 1) (2 ^ 64 - 1) }
         ensures next { self.new.line ≡ Some [] }
@@ -97,7 +97,7 @@ impl<R: Eprint + Clock> Follows for Ending<'_, R> {
     }
 }
 
-// Follows the lines of standard input to its end. So many lines have come before.
+// Follows the lines of standard input to its end. `before` lines have come before.
 fn follow_lines<R: Input + Eprint + Clock>(rt: &R, stop: &Stop, line: LineSoFar, before: u64) {
     let mut ending = Ending {
         rt,
@@ -108,8 +108,8 @@ fn follow_lines<R: Input + Eprint + Clock>(rt: &R, stop: &Stop, line: LineSoFar,
     follow_all(rt, &mut ending);
 }
 
-/// Starts a thread that follows standard input, of which so many lines have come, beginning with this
-/// empty line. Nobody joins it: it ends with the process. Fails if it can't be started.
+/// Starts a thread that follows standard input, of which `before` lines have come. The next is this
+/// empty line. Nobody joins the thread: it ends with the process. Fails if it can't be started.
 pub(crate) fn follow_input<R: Threads + Hosted>(
     rt: &R,
     stop: &Arc<Stop, Global>,

@@ -14,7 +14,7 @@ use std::thread;
 use std::thread::Threads;
 use std::time::{Clock, Duration};
 
-/// The most bytes of a line that are kept. The longest line that has a form has 151.
+/// Further bytes of a line are dropped. The longest line that has a form has 151.
 const LONGEST: usize = 256;
 
 /// A line that comes back is offered again after this many milliseconds.
@@ -104,7 +104,7 @@ struct HostInput<'a, R> {
 }
 
 impl<R: Clock> HostInput<'_, R> {
-    // The line is whole. It is offered until it is taken.
+    // Offers a whole line until the service takes it.
     fn hand_on(&mut self) {
         let Some(mut line) = self.line.end() else {
             return;
@@ -138,7 +138,7 @@ fn hand_on_lines<R: Input + Clock>(rt: &R, lines: &HostLines, line: LineSoFar) {
     follow_all(rt, &mut HostInput { rt, lines, line });
 }
 
-// Starts the thread that hands them on.
+// Starts the thread that hands the lines on.
 fn start<R: Threads + Hosted>(
     rt: &R,
     lines: &Arc<HostLines, Global>,
@@ -156,8 +156,8 @@ fn start<R: Threads + Hosted>(
     }
 }
 
-/// Starts a thread that hands the lines of standard input on to a service. Nobody joins it: it ends with the process. If it
-/// can't be started, it says so.
+/// Starts a thread that hands the lines of standard input on to a service. Nobody joins the thread: it ends with the process.
+/// If it can't be started, standard error says so.
 pub(crate) fn hand_input_on<R: Threads + Hosted + Eprint>(
     rt: &R,
     alloc: Global,

@@ -1,5 +1,5 @@
-//! The program `cops`. It answers a script, writes its audit, replays an audit, extracts a part of
-//! it or migrates it, or serves clients.
+//! The program `cops`. It answers a script, writes its audit, or serves clients. It replays or migrates
+//! an audit, or extracts a part of it.
 #![tactic(auto)]
 
 ghost use Rattle.std.specs.Prelude.{◌≡◌, ◌≢◌, ◌⊎◌, map, None, IfErr, IsFalse};
@@ -68,8 +68,8 @@ fn reads_a_file<S: AsStr>(words: &[S]) -> bool
     }
 }
 
-/// Returns what reports the progress of the command that the words name. On a terminal alone, and
-/// not for input that is typed.
+/// Returns the meter that reports the progress of the command that the words name. Reports go to a
+/// terminal only, and never while input is typed.
 fn progress_of<'a, S: AsStr>(rt: &'a HostRuntime, words: &[S]) -> Option<Progress<'a, HostRuntime>>
     ensures { AsksForService S.text words.now → result ≡ None }
 {
@@ -81,8 +81,8 @@ fn progress_of<'a, S: AsStr>(rt: &'a HostRuntime, words: &[S]) -> Option<Progres
     }
 }
 
-/// Runs the command that the words name, writes the text of its fault to standard error, and
-/// returns the exit status. The first word is the program's name.
+/// Runs the command that the words name, and returns the exit status. The text of its fault goes to
+/// standard error. The first word is the program's name.
 fn run<T, S: AsStr, R: Read, O: Write>(
     rt: &T,
     words: &[S],
@@ -107,7 +107,7 @@ fn end<R: Eprint>(rt: &R, outcome: Result<(), CliFault>) -> ExitCode
     let Err(fault) = outcome else {
         return ExitCode::SUCCESS;
     };
-    // Where standard error takes nothing, the status has to do.
+    // If standard error takes nothing, the status alone tells the fault.
     let _ = rt.eprint(&fault);
     ExitCode::from(fault.status())
 }

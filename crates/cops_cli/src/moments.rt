@@ -6,7 +6,7 @@ use cops_wire::Moments;
 use std::time::{Clock, Duration};
 
 /// Milliseconds since 1970. It reads the system's clock once, and adds the time of a monotonic
-/// clock, so it doesn't jump when the system's clock is set.
+/// clock. So it doesn't jump when the system's clock is set.
 #[derive_where(Clone, Copy)]
 pub(crate) struct SteadyMoments<'a, R: Clock> {
     clock: &'a R,
@@ -31,7 +31,7 @@ impl<'a, R: Clock> SteadyMoments<'a, R> {
 }
 
 impl<R: Clock> Moments for SteadyMoments<'_, R> {
-    // No timestamp is before the first, which stays.
+    // No timestamp is before the first. The first stays.
     ghost Gives = { λ old moment new. (old.first ≤ moment) × (new.first ≡ old.first) };
 
     fn now(&mut self) -> u64 {
@@ -44,7 +44,7 @@ impl<R: Clock> Moments for SteadyMoments<'_, R> {
     }
 }
 
-// Returns a time in milliseconds, or 0 if they don't fit a `u64`.
+// Returns a time in milliseconds, or 0 if it doesn't fit a `u64`.
 fn millis(time: Duration) -> u64
     ensures fits { as_nanos time / 1_000_000 < 2 ^ 64 → result ≡ as_nanos time / 1_000_000 }
     ensures over { 2 ^ 64 ≤ as_nanos time / 1_000_000 → result ≡ 0 }

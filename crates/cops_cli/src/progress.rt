@@ -7,7 +7,7 @@ use std::io;
 use std::io::Read;
 use std::time::{Clock, Duration};
 
-/// How long a run is silent at first, in seconds.
+/// A run is silent for this many seconds at first.
 const SILENCE: u64 = 2;
 
 /// The time between reports, in seconds.
@@ -61,9 +61,8 @@ impl<T: Clock + Eprint> Progress<'_, T> {
     }
 }
 
-/// A reader that gives another one's bytes, and reports the number of lines among them if there is a
-/// `Progress`. Unless it reads ahead, it takes at most one byte a turn: what follows a head then stays
-/// unread.
+/// A reader that gives another one's bytes. If there is a `Progress`, it reports the number of lines among
+/// them. Unless it reads ahead, it takes at most one byte a turn. So the lines after a head stay unread.
 #[derive(Drop)]
 pub(crate) struct WatchedReader<'a, T, I> {
     reader: I,

@@ -65,7 +65,7 @@ impl<R: Eprint> HostReports for Told<'_, R> {
     }
 }
 
-/// Lets the lines of standard input come to the host.
+/// Hands the lines of standard input on to the host.
 fn input_of<R>(rt: &R, alloc: Global) -> Result<Arc<HostLines, Global>, CliFault>
 where
     R: Threads + Hosted + Eprint,
@@ -95,7 +95,7 @@ where
     ensures stopped { IfErr result (λ fault.
         (fault ≡ CliFault.OutOfMemory) ⊎ (fault ≡ CliFault.ReadFault)) }
 {
-    // Nodes that a service leaves have its open tenants.
+    // The nodes that a service leaves have its open tenants.
     open_tenants_are_at_all_nodes::<SteadyMoments<'_, R>>();
     let listener = listen(rt, service.address)?;
     let stop = stop_at(rt, &listener)?;
@@ -147,8 +147,8 @@ fn conclude<R: Eprint, O: Write>(
     ensures write_fault { IsErrOf result CliFault.WriteFault →
         HasRisen (sink_failures sink.old) (sink_failures sink.new) }
 
-    // A replay of each open tenant's records finds them all the same; of the text too, as
-    // `write_open_audit` says it.
+    // A replay of each open tenant's records finds them all the same. So does a replay of the text, as
+    // in `write_open_audit`.
     ensures replays { AllReplaySame (open_config_of config.now served.now.roster.tenants)
         (open_nodes_of config.now served.now.roster.tenants served.now.nodes.items) }
     ensures says_same { (lines rest : List (List ℕ)) →

@@ -23,7 +23,7 @@ abbrev pub IsAdmittedThere : ℕ → Life → Tenant → HostedLog → Type 0
 IsAdmittedThere node life tenant history =
     (host : ℕ) × (before : HostedLog) × (after : HostedLog) × (history ≡ before ++ admission_turn host node life tenant ∷ after)
 
--- there are nodes, and each of so many admitted the tenant in this life
+-- there are nodes, and each of this many admitted the tenant in this life
 pub record IsAdmittedEverywhere (nodes : ℕ) (life : Life) (tenant : Tenant) (history : HostedLog) : Type 0 where
   pub some : 0 < nodes
   pub each : (node : ℕ) → node < nodes → IsAdmittedThere node life tenant history

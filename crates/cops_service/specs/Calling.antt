@@ -1,4 +1,4 @@
--- Calls that a thread makes at nodes for what is noted.
+-- Calls that a thread makes at nodes for work items.
 use Rattle.std.specs.Prelude.{◌≡◌, ℕ, zero, suc, ◌⊎◌, List, [], ◌∷◌}
 use Rattle.cops_types.specs.declared.configs.Config.{Config}
 use Rattle.cops_model.specs.declared.calls.NodeCall.{NodeCall}
@@ -13,7 +13,7 @@ module _ {N : Type 0} (answers : N → NodeId → ℕ → ℕ → NodeCall → N
   abbrev pub IsCallFor : ℕ → N → N → Type 0
   IsCallFor slot old new = (id : NodeId) × (moment : ℕ) × (call : NodeCall) × (reply : NodeReply) × answers old id slot moment call reply new
 
-  -- so many calls, one after another, all for the tenant of this slot
+  -- this many calls, one after another, all for the tenant of this slot
   abbrev pub AreCallsFor : ℕ → ℕ → N → N → Type 0
   AreCallsFor slot zero old new = new ≡ old
   AreCallsFor slot (suc count) old new = (between : N) × AreCallsFor slot count old between × IsCallFor slot between new
@@ -26,11 +26,11 @@ module _ {N : Type 0} (answers : N → NodeId → ℕ → ℕ → NodeCall → N
   abbrev pub Collects : TenantNode → N → N → Type 0
   Collects place old new = (moment : ℕ) × (reply : NodeReply) × answers old place.id place.slot moment Collect reply new
 
-  -- so it is, if the tenant and the node are there, and otherwise no call is made
+  -- the same if the tenant and the node exist, and otherwise no call is made
   abbrev pub CollectsIfThere : Config → TenantNode → N → N → Type 0
   CollectsIfThere config place old new = (IsThere config place × Collects place old new) ⊎ ((IsThere config place → ⊥) × (new ≡ old))
 
-  -- so many places that are there are collected, one after another
+  -- this many places that exist are collected, one after another
   abbrev pub CollectAll : Config → ℕ → N → N → Type 0
   CollectAll config zero old new = new ≡ old
   CollectAll config (suc count) old new = (between : N) × (place : TenantNode) × CollectAll config count old between × IsThere config place × Collects place between new

@@ -31,7 +31,7 @@ module _ {N : Type 0} (answers : N → NodeId → ℕ → ℕ → NodeCall → N
       × answers old directed.node slot (max before.moment moment) directed.call reply new
       × (after ≡ carrier_after before (record { moment = max before.moment moment; outcome = Replied reply }))
 
-  -- it takes so many steps
+  -- it takes this many steps
   abbrev pub TakesSteps : ℕ → N → Carrier → N → Carrier → Type 0
   TakesSteps zero old before new after = (new ≡ old) × (after ≡ before)
   TakesSteps (suc count) old before new after = (between : N) × (middle : Carrier) × TakesSteps count old before between middle × TakesStep between middle new after
@@ -50,7 +50,7 @@ module _ {N : Type 0} (answers : N → NodeId → ℕ → ℕ → NodeCall → N
   abbrev pub DeliversSome : N → N → Type 0
   DeliversSome old new = (stream : Noted) × (ending : Delivery) × IsStream config stream × Delivers answers config.shards stream.from.slot (carried_stream stream) old new ending
 
-  -- so many carriers do, one after another
+  -- this many carriers do, one after another
   abbrev pub DeliverAll : ℕ → N → N → Type 0
   DeliverAll zero old new = new ≡ old
   DeliverAll (suc count) old new = (between : N) × DeliverAll count old between × DeliversSome between new

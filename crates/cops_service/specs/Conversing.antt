@@ -1,4 +1,4 @@
--- What a worker does at nodes for its clients.
+-- A worker's conversations with its clients, at nodes.
 use Rattle.std.specs.Prelude.{◌≡◌, ◌⊎◌, ℕ, zero, suc, None}
 use Rattle.cops_types.specs.declared.configs.Config.{Config}
 use Rattle.cops_model.specs.declared.calls.NodeCall.{NodeCall}
@@ -15,7 +15,7 @@ module _ {N M : Type 0} (Calls : N → NodeId → ℕ → ℕ → NodeCall → N
       ((ended : Ended) × HasConversed Calls Gives config None None None None nodes new_nodes moments new_moments ended)
       ⊎ HasConversedInPart Calls Gives config None None None nodes new_nodes moments new_moments
 
-  -- so many clients, one after another
+  -- this many clients, one after another
   abbrev pub ConverseAll : ℕ → N → N → M → M → Type 0
   ConverseAll zero nodes new_nodes moments new_moments = (new_nodes ≡ nodes) × (new_moments ≡ moments)
   ConverseAll (suc count) nodes new_nodes moments new_moments =

@@ -36,11 +36,11 @@ module _ (config : Config) (cluster : Gates Shared) where
   CollectsPlaces first last = (count : ℕ) × CollectAll (IsDeskCall cluster) config count first last
 
 module _ {M : Type 0} (Gives : M → ℕ → M → Type 0) (moments : M) (config : Config) (cluster : Gates Shared) where
-  -- the seats of so many workers
+  -- the seats of this many workers
   abbrev pub AreOfWorkers : ℕ → List NodeSeat → Type 0
   AreOfWorkers = AreAllDone cluster (ServesClients config cluster Gives moments)
 
-  -- the seats of so many workers, and then that of the carrier
+  -- the seats of this many workers, and then that of the carrier
   pub record AreOfServers (count : ℕ) (seats : List NodeSeat) : Type 0 where
     pub workers : List NodeSeat
     pub carrier : NodeSeat

@@ -1,4 +1,4 @@
--- What a history of a node at which tenants come and go says of one slot.
+-- One slot in a history of a node at which tenants come and go.
 use Rattle.std.specs.Prelude.{◌≡◌, ℕ, nat_eq, false, List, [], ◌∷◌, map, if◌then◌else◌}
 use Rattle.cops_gate.specs.declared.history.Entry.{Entry}
 use Rattle.cops_gate.specs.declared.history.Turn.{Turn}
@@ -19,7 +19,7 @@ HostedEntry = Entry SlotCall SlotReply
 abbrev pub timed_slot : HostedEntry → TimedSlotCall
 timed_slot e = record { moment = e.moment; call = e.call }
 
--- the calls of a slot, those of the host among them, with the moments that were handed in
+-- the calls of a slot, those of the host among them, with the timestamps that were passed
 abbrev pub slot_calls_at : ℕ → HostedLog → List TimedSlotCall
 slot_calls_at slot log = map timed_slot (slot_entries slot log)
 
@@ -31,7 +31,7 @@ joins_calls n moment (Own life call) rest = if nat_eq life n then record { momen
 joins_calls n moment (Admit life tenant) rest = rest
 joins_calls n moment Close rest = rest
 
--- among the calls of a slot those of this life, with the moments that were handed in
+-- among the calls of a slot those of this life, with the timestamps that were passed
 abbrev pub life_calls : ℕ → List TimedSlotCall → List TimedCall
 life_calls n [] = []
 life_calls n (c ∷ calls) = joins_calls n c.moment c.call (life_calls n calls)

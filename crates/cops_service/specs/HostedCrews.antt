@@ -1,4 +1,4 @@
--- What threads of a service do whose tenants come and go: work items are carried and collected in their lives, and lines of the host are followed.
+-- The work of threads of a service whose tenants come and go: work items are carried and collected in their lives, and lines of the host are followed.
 use Rattle.std.specs.Prelude.{◌≡◌, ◌⊎◌, ℕ, ◌<◌, ◌≤◌, Option, Some, None, IsSomeAnd}
 use Rattle.cops_types.specs.declared.configs.Config.{Config}
 use Rattle.cops_types.specs.declared.configs.Tenant.{Tenant}
@@ -39,7 +39,7 @@ module _ (config : Config) (cluster : Gates Hosted) where
   abbrev pub DeliversInLife : Stream → HostedSeat → HostedSeat → Type 0
   DeliversInLife stream = DeliversStream (CallsInLife cluster (life_of_place stream.from)) config.shards stream
 
-  -- no carrier of this stream, or some, if it goes from a node that is there to another data centre, and otherwise no call is made
+  -- no carrier of this stream, or some, if it goes from an existing node to another data centre, and otherwise no call is made
   abbrev pub CarriesInLife : Stream → HostedSeat → HostedSeat → Type 0
   CarriesInLife stream first last =
       (IsBetweenCentres config stream × IsRepeated (DeliversInLife stream) first last)
@@ -58,7 +58,7 @@ module _ (config : Config) (cluster : Gates Hosted) where
   abbrev pub CollectsPlace : TenantNode → HostedSeat → HostedSeat → Type 0
   CollectsPlace place = Collects (CallsInLife cluster (life_of_place place)) place
 
-  -- so it is, if the node is there, and otherwise no call is made
+  -- the same if the node exists, and otherwise no call is made
   abbrev pub CollectsInLife : TenantNode → HostedSeat → HostedSeat → Type 0
   CollectsInLife place first last =
       (IsNodeThere config place × CollectsPlace place first last)

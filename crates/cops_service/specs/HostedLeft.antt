@@ -1,4 +1,4 @@
--- What a service leaves whose tenants came and went.
+-- The nodes that a service leaves whose tenants came and went.
 use Rattle.std.specs.Prelude.{◌≡◌, ℕ, List, length, map}
 use Rattle.std.specs.List.{AllByRecursion}
 use mathlib.Core.Option.{some}

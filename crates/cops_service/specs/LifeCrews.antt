@@ -60,7 +60,7 @@ module _ (cluster : Gates Hosted) where
 -- ---- all threads
 
 module _ {M : Type 0} (Gives : M → ℕ → M → Type 0) (moments : M) (config : Config) (cluster : Gates Hosted) where
-  -- the seats of so many workers
+  -- the seats of this many workers
   abbrev pub AreOfLifeWorkers : ℕ → List HostedSeat → Type 0
   AreOfLifeWorkers = AreAllDone cluster (ServesLives config cluster Gives moments)
 

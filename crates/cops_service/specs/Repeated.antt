@@ -2,7 +2,7 @@
 use Rattle.std.specs.Prelude.{◌≡◌, ℕ, zero, suc}
 
 module _ {N : Type 0} (Step : N → N → Type 0) where
-  -- so many steps
+  -- this many steps
   abbrev pub Repeats : ℕ → N → N → Type 0
   Repeats zero old new = new ≡ old
   Repeats (suc count) old new = (between : N) × Repeats count old between × Step between new

@@ -13,7 +13,7 @@ pub record HasSinceDone {M C R : Type 0} (cluster : Gates M) (Does : Known M C R
   pub no_turn : HasNoTurn first
   pub does : Does first seat
 
--- the seats of so many threads, each of which has since done just this
+-- the seats of this many threads, each of which has since done just this
 abbrev pub AreAllDone : {M C R : Type 0} → Gates M → (Known M C R → Known M C R → Type 0) → ℕ → List (Known M C R) → Type 0
 AreAllDone cluster Does count seats = (length seats ≡ count) × AllByRecursion (HasSinceDone cluster Does) seats
 

@@ -37,7 +37,7 @@ pub(crate) struct Accepted {
     pub(crate) peer: SocketAddr,
 }
 
-/// How a service ended.
+/// The end of a service.
 #[derive(Clone, Copy, Debug, PartialEq, Eq)]
 pub enum ServiceEnd {
     /// It served its number of connections, or was asked to end.

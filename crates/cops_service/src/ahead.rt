@@ -7,7 +7,7 @@ ghost use Rattle.std.specs.Prelude.{◌≡◌, ◌-◌, ◌<◌};
 
 use std::alloc::Global;
 
-// A thread reserves once in this many node calls.
+// A thread reserves memory once in this many node calls.
 const CALLS: u32 = 1024;
 
 // The bytes that it reserves: about what that many puts of small values keep.

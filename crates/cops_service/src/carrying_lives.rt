@@ -14,10 +14,10 @@ use std::sync::Wait;
 use std::thread;
 use std::time::{Clock, Duration};
 
-// For how many milliseconds work items gather before they are looked at again.
+// Work items gather for this many milliseconds before the collector takes them.
 const REST: u64 = 5;
 
-// Carries what a stream has, in its life. A stream that can't go on waits.
+// Carries a stream's entries, in its life. A stream that can't go on waits.
 fn carry_life<R: Wait, T: Moments>(
     nodes: &mut LivingDesk<'_, R>,
     moments: &mut T,
@@ -44,7 +44,7 @@ fn carry_life<R: Wait, T: Moments>(
     tried.carried
 }
 
-// Carries what these streams have, one after another. Returns whether anything was carried.
+// Carries the entries of these streams, one stream after another. Returns `true` if anything was carried.
 fn carry_each<R: Wait, T: Moments>(
     nodes: &mut LivingDesk<'_, R>,
     moments: &mut T,
@@ -67,7 +67,7 @@ fn carry_each<R: Wait, T: Moments>(
     carried
 }
 
-/// Carries what is noted, until the list has ended and no stream goes on.
+/// Carries streams of the list until it has ended and no stream goes on.
 pub(crate) fn carry_lives<R: Wait + Clock, T: Moments>(
     nodes: &mut LivingDesk<'_, R>,
     moments: &mut T,
@@ -123,7 +123,7 @@ fn collect_life<R: Wait>(
     came_of(nodes.step(place.id, place.slot, moment, NodeCall::Collect))
 }
 
-// Collects at these places, one after another. Where versions were removed, streams to that place may go on.
+// Collects at these places, one after another. If versions were removed, streams to that place may go on.
 fn collect_each<R: Wait, T: Moments>(
     nodes: &mut LivingDesk<'_, R>,
     moments: &mut T,
@@ -148,7 +148,7 @@ fn collect_each<R: Wait, T: Moments>(
     }
 }
 
-/// Collects what is due or lacks room, until the list has ended.
+/// Collects where something is due, or room is needed, until the list has ended.
 pub(crate) fn collect_lives<R: Wait + Clock, T: Moments>(
     nodes: &mut LivingDesk<'_, R>,
     moments: &mut T,

@@ -30,11 +30,11 @@ pub(crate) enum Collected {
 
 #[derive(Clone, Copy)]
 struct Due {
-    // Whether `kept` lists the place.
+    // `true` if `kept` lists the place.
     is_kept: bool,
-    // The life of its versions. What an earlier life left is forgotten.
+    // The life of its versions. The entry of an earlier life is forgotten.
     life: u64,
-    // Whether to collect the place at once.
+    // `true` if the place is to be collected at once.
     is_asked: bool,
     // When the oldest version that no collection has covered is due.
     at: u64,
@@ -296,7 +296,7 @@ fn due_after(time: u64, trans_time: u64) -> u64
     time.saturating_add(trans_time).saturating_add(1)
 }
 
-/// Returns the time until then, if it ever comes.
+/// Returns the time from `now` until `time`, or none if `time` never comes.
 pub(crate) fn rest_until(time: u64, now: u64) -> Option<Duration>
     ensures never { time ≡ NEVER → result ≡ None }
     ensures rest { time ≢ NEVER → IsSomeAnd result (λ rest.

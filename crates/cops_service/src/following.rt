@@ -1,4 +1,4 @@
-//! What the host's lines do at a running cluster.
+//! Follows the host's lines at a running cluster.
 ghost use Rattle.std.specs.Prelude.{◌≡◌, ◌<◌, ◌≤◌, [], length};
 ghost use Rattle.cops_types.specs.OpenSlots.{open_slot_of_name};
 ghost use Rattle.cops_types.specs.Version.{last_clock};
@@ -91,7 +91,7 @@ fn admit_line<R: Wait, S: Site>(
     admit(rt, residents, host, tenant)
 }
 
-// Does what a line of the host says. Returns the reply, or none if the line asks for the end.
+// Follows a line of the host. Returns the reply, or none if the line asks for the end.
 fn reply_to<R: Wait + Clock, S: Site>(
     rt: &R,
     residents: &Residents<S>,
@@ -119,7 +119,7 @@ fn reply_to<R: Wait + Clock, S: Site>(
     }
 }
 
-/// Follows a line of the host, and keeps the reply.
+/// Follows a line of the host, and adds the reply to those that are reported together.
 pub(crate) fn follow<R: Wait + Clock, L: HostReports, S: Site>(
     rt: &R,
     residents: &Residents<S>,

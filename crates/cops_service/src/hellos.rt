@@ -15,7 +15,7 @@ use std::time::Clock;
 /// The bytes of a frame with a Hello: its length, a tag, a token and a data centre.
 const HELLO: usize = 22;
 
-/// The first bytes of a connection, and the token of its Hello if they are one.
+/// The first bytes of a connection, and the token if they are a Hello.
 #[derive(Drop)]
 pub(crate) struct Opened {
     pub(crate) bytes: Vec<u8>,
@@ -43,8 +43,8 @@ fn token_in(messages: &[Message]) -> Option<[u8; 16]>
     }
 }
 
-/// Reads until a connection's first message is there, or as many bytes as a Hello has: a longer message doesn't greet. The token
-/// is that of the bytes.
+/// Reads until a connection's first message is there, or as many bytes as a Hello has. A longer message is no Hello. The
+/// token is that of the bytes.
 pub(crate) fn open_line<C: Clock>(alloc: Global, line: &Line<'_, C>) -> Result<Opened, RequestError>
     ensures token { IfOk result
         (λ opened. opened.token ≡ first_token (split_of opened.bytes.items).messages) }

@@ -8,7 +8,7 @@ use std::alloc::{AllocError, Global};
 use std::mem;
 use std::sync::{Condvar, Mutex, Wait};
 
-/// The most lines that wait. Another one is given back.
+/// The most lines that wait. A further line is given back.
 const MOST_WAITING: usize = 64;
 
 /// The meaning of a line of the host.

@@ -39,31 +39,31 @@ use std::time::Clock;
 /// The most tenants at once.
 const MOST_TENANTS: u64 = 64;
 
-/// A host's way to a running service.
+/// A host's access to a running service.
 #[derive_where(Clone, Copy)]
 pub struct Host<'a, L> {
-    /// The lines that it is to follow.
+    /// The lines that the service follows.
     pub lines: &'a HostLines,
-    /// Ends it in an orderly way.
+    /// Ends the service in an orderly way.
     pub stop: &'a Stop,
     /// Gets the replies, and reports of connections.
     pub reports: &'a L,
 }
 
-/// What a service leaves whose tenants came and went.
+/// The result of a service whose tenants came and went.
 #[derive(Drop)]
 pub struct HostServed {
     /// The nodes, by number.
     pub nodes: Vec<Node>,
     /// The tenants that are open.
     pub roster: Roster,
-    /// How it ended.
+    /// The service's end.
     pub end: ServiceEnd,
-    /// What it did.
+    /// Its counts.
     pub counts: Counts,
 }
 
-/// How a service ended, what it did, and the tenants that are open then.
+/// The end of a service, its counts, and the tenants that are open then.
 #[derive(Drop)]
 struct Outcome {
     end: ServiceEnd,
@@ -71,7 +71,7 @@ struct Outcome {
     roster: Roster,
 }
 
-// Ends the seats that the threads gave back. Returns how the service ended, and the tenants that are open.
+// Ends the seats that the threads gave back. Returns the end of the service, its counts, and the open tenants.
 #[tactic(auto, using(crate::proofs::LifeCrews::crew_own, crate::proofs::LifeCrews::seen_lives))]
 fn end_seats<T: Moments + Copy>(
     alloc: Global,
@@ -171,7 +171,7 @@ where
     end_seats(alloc, seated, left, totals.counts(), moments, workers)
 }
 
-// The nodes alone.
+// Returns the nodes without their tenants' lives.
 fn nodes_of(alloc: Global, hosted: Vec<HostedNode>) -> Result<Vec<Node>, AllocError>
     ensures { IfOk result (λ nodes. nodes.items ≡ map hosted_node hosted.items) }
 {
@@ -222,7 +222,7 @@ where
     )?;
     let seat = seated.into_seat();
     let closed = cluster.close(alloc, seat)?;
-    // If all threads started, each gave its seat back, and no node is lacking.
+    // If all threads started, each gave its seat back, and no node is missing.
     let Some(hosted) = closed else {
         return Err(RequestError::Refused(Fault::ReadFault));
     };

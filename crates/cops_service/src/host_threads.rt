@@ -1,4 +1,4 @@
-//! What the threads of a service whose tenants come and go do, and the thread that follows its host.
+//! The tasks of the threads of a service whose tenants come and go, and the thread that follows its host.
 ghost use Rattle.std.specs.Prelude.{◌≡◌, ◌<◌, ◌⊎◌, ◌∷◌, ◌++◌, ⊤, [], length, IfOk, IfSome, IsSomeAnd};
 ghost use Rattle.std.specs.List.{AllByRecursion};
 ghost use Rattle.std.specs.Thread.{IsSend, IsSync};
@@ -42,7 +42,7 @@ use std::thread;
 use std::thread::{Promise, Threads};
 use std::time::Clock;
 
-/// What all threads share.
+/// The state that all threads share.
 pub(crate) struct Together<'a, R, L, S: Site> {
     pub(crate) shared: Shared<'a, R, L, HostedNode>,
     pub(crate) residents: &'a Residents<S>,
@@ -62,8 +62,7 @@ impl<R, L, S: Site> Clone for Together<'_, R, L, S> {
 
 impl<R, L, S: Site> Copy for Together<'_, R, L, S> {}
 
-/// How a service ended whose threads were all started, with their seats, or none if a worker couldn't be started. And the
-/// tenants that are open then.
+/// The results of a service's threads, or none if a worker couldn't be started; and the tenants that are open then.
 #[derive(Drop)]
 pub(crate) struct Left {
     pub(crate) finished: Option<Finished<ClusterSeat<HostedNode>>>,
@@ -254,7 +253,7 @@ fn serve_stream<R: Wait + Clock, L: Reports, T: Moments, S: Site>(
         together.shared.listening.options.idle,
     );
     let ended = serve_life(together, &line, nodes, moments);
-    // (closing reads on, so what the client did until then is asked first)
+    // Closing reads on. So the state is taken before.
     let course = line.course();
     line.close();
     conclude(
@@ -292,7 +291,7 @@ fn serve_lives<R: Wait + Clock, L: Reports, T: Moments, S: Site>(
     }
 }
 
-/// A worker serves connections until none follows.
+/// A worker's task: serves connections until none follows.
 #[derive_where(Clone, Copy; T)]
 struct Serves<'a, 'b, R, L, T, S: Site> {
     together: Together<'a, R, L, S>,
@@ -345,7 +344,7 @@ where
 
 // ---- the threads that carry and collect
 
-/// The carrier carries until no stream follows.
+/// The carrier's task: carries until no stream follows.
 #[derive(Drop)]
 struct Carries<'a, R, L, T> {
     shared: Shared<'a, R, L, HostedNode>,
@@ -392,7 +391,7 @@ impl<R: Wait + Clock, L, T: Moments + Copy> Task<ClusterSeat<HostedNode>> for Ca
     }
 }
 
-/// The collector collects until no place follows.
+/// The collector's task: collects until no place follows.
 #[derive(Drop)]
 struct Collects<'a, R, L, T> {
     shared: Shared<'a, R, L, HostedNode>,
@@ -437,7 +436,7 @@ impl<R: Wait + Clock, L, T: Moments + Copy> Task<ClusterSeat<HostedNode>>
 
 // ---- the host
 
-/// What the host's thread gives back: its seat, and the tenants that are open.
+/// The result of the host's thread: its seat, and the open tenants.
 #[derive(Drop)]
 struct Followed {
     seat: ClusterSeat<HostedNode>,

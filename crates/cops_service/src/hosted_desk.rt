@@ -49,8 +49,8 @@ impl<'a, R: Wait> HostedDesk<'a, R> {
         HostedDesk { rt, cluster, seat }
     }
 
-    /// Makes a call of a slot at a node, or admits or closes its tenant there, in one turn of that node.
-    /// Fails with `AllocError` if memory runs out at the node.
+    /// Makes a call of a slot, or admits or closes its tenant, in one turn of a node. Fails with `AllocError` if memory runs
+    /// out at the node.
     #[inline(always)]
     pub fn ask(
         &mut self,

@@ -17,7 +17,7 @@ use std::alloc::AllocError;
 use std::sync::Wait;
 
 impl<R: Wait> HostedDesk<'_, R> {
-    // Makes a call of the host at the node of this number.
+    // Makes a call of the host at the node with this number.
     fn tell(&mut self, number: usize, slot: u64, call: SlotCall) -> Result<SlotReply, AllocError>
         requires node { number < length (openings self.old.cluster.now) }
         requires fits { (home : Home) → FitsSlot home slot call }
@@ -32,7 +32,7 @@ impl<R: Wait> HostedDesk<'_, R> {
         )
     }
 
-    // Gives the slot to the tenant at the node of this number.
+    // Gives the slot to the tenant at the node with this number.
     fn admit_at(
         &mut self,
         number: usize,
@@ -59,7 +59,7 @@ impl<R: Wait> HostedDesk<'_, R> {
         }
     }
 
-    // Closes the slot at this many first nodes.
+    // Closes the slot at the first `count` nodes.
     fn close_at_first(&mut self, count: usize, slot: u64)
         requires { count ≤ length (openings self.old.cluster.now) }
         ensures cluster { self.new.cluster.now ≡ self.old.cluster.now }
@@ -73,8 +73,8 @@ impl<R: Wait> HostedDesk<'_, R> {
     }
 
     /// Gives a slot to a tenant, in a life of this number: at all nodes, or at none. If a node refuses, the slot is closed
-    /// again at those that admitted the tenant, and the node's reason is returned: that memory ran out there, `NoSlot` if the
-    /// slot isn't free there, or `GateSpent`. Nodes serve other calls between these turns.
+    /// again at the nodes that admitted the tenant. Then the error is that node's: out of memory, `NoSlot` if the slot isn't
+    /// free there, or `GateSpent`. Nodes serve other calls between these turns.
     pub fn admit_at_all(
         &mut self,
         slot: u64,

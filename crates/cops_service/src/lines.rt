@@ -35,7 +35,7 @@ pub(crate) fn grace_of(idle: u64) -> u64
     }
 }
 
-/// A socket with its client's deadline and its outcome.
+/// A client's socket, with the client's deadline and the socket's state.
 #[derive(Drop)]
 pub(crate) struct Line<'a, C: Clock> {
     clock: &'a C,
@@ -45,7 +45,7 @@ pub(crate) struct Line<'a, C: Clock> {
     limit: u64,
     // The same once the service is asked to end.
     grace: u64,
-    // When the client's time began: at the start or the last written reply.
+    // The client's time began then: at the start or the last written reply.
     since: Cell<u64>,
     saw_end: Cell<bool>,
     is_idle: Cell<bool>,
@@ -77,7 +77,7 @@ impl<'a, C: Clock> Line<'a, C> {
         }
     }
 
-    /// Returns how the connection went.
+    /// Returns the socket's state.
     pub(crate) fn course(&self) -> Course {
         Course {
             saw_end: self.saw_end.get(),
@@ -96,7 +96,7 @@ impl<'a, C: Clock> Line<'a, C> {
         self.stop.is_over(self.clock, self.grace)
     }
 
-    // Returns `true` if the client's time that began then is over.
+    // Returns `true` if the client's time that began at `since` is over.
     fn is_over(&self, since: u64) -> bool
         ensures { self.now.limit ≡ 0 → IsFalse result }
     {
@@ -153,7 +153,7 @@ impl<'a, C: Clock> Line<'a, C> {
         }
     }
 
-    /// Shuts down the server's side, and lets the client close its own: reads on for a while, so that the system doesn't drop
+    /// Shuts down the server's side, and lets the client close its own. Reads on for a while, so that the system doesn't drop
     /// replies that are on their way.
     pub(crate) fn close(&self) {
         if self.saw_end.get() || self.stream.shutdown(Shutdown::Write).is_err() {

@@ -1,4 +1,4 @@
-//! Replies to lines of the host, kept until all lines that came together are followed.
+//! Replies to lines of the host, which are reported once all lines that came together are followed.
 ghost use Rattle.std.specs.Prelude.{◌≡◌, ◌<◌, ◌≤◌, ◌++◌, ◌∷◌, [], IfOk};
 ghost use Rattle.std.specs.Vec.{vec_capacity, vec_len};
 
@@ -6,10 +6,10 @@ use crate::reports::HostReports;
 use cops_model::HostReply;
 use std::alloc::{AllocError, Global};
 
-/// The most replies that are kept.
+/// The most replies that wait to be reported.
 const MOST_KEPT: usize = 64;
 
-/// Replies that are not reported yet, in the order of the lines.
+/// Replies that wait to be reported, in the order of the lines.
 #[derive(Drop)]
 pub(crate) struct Replies {
     pub(crate) kept: Vec<HostReply>,
@@ -17,7 +17,7 @@ pub(crate) struct Replies {
 }
 
 impl Replies {
-    /// Returns no replies. Fails with `AllocError` if memory runs out.
+    /// Returns an empty list. Fails with `AllocError` if memory runs out.
     pub(crate) fn new(alloc: Global) -> Result<Self, AllocError>
         ensures { IfOk result (λ replies. replies.kept.items ≡ []) }
     {
@@ -26,7 +26,7 @@ impl Replies {
         })
     }
 
-    /// Keeps a reply. Those before it are reported first if no other has room.
+    /// Adds a reply. If there is no room for it, those before it are reported first.
     pub(crate) fn keep<L: HostReports>(&mut self, reports: &L, reply: HostReply)
         ensures added { vec_len self.old.kept < vec_capacity self.old.kept →
             self.new.kept.items ≡ self.old.kept.items ++ reply ∷ [] }
@@ -39,7 +39,7 @@ impl Replies {
         self.kept.push_reserved(reply);
     }
 
-    /// Reports the replies, if there are any, and keeps none.
+    /// Reports the replies, if there are any, and clears the list.
     pub(crate) fn report<L: HostReports>(&mut self, reports: &L)
         ensures { self.new.kept.items ≡ [] }
     {

@@ -23,7 +23,7 @@ pub enum Cause {
     OutOfMemory,
 }
 
-/// Gets reports of connections that don't end cleanly, and of a listener that works again.
+/// Reports connections that don't end cleanly, and a listener that works again.
 pub trait Reports {
     /// Reports the end of a connection.
     fn ended(&self, peer: &SocketAddr, cause: Cause);
@@ -32,9 +32,9 @@ pub trait Reports {
     fn accepts_again(&self, failures: u64);
 }
 
-/// Gets the replies to the host's lines, in the order of the lines.
+/// Reports the replies to the host's lines, in the order of the lines.
 pub trait HostReports {
-    /// Gets the replies to lines that were followed together: one or more.
+    /// Reports the replies to lines that were followed together: one or more.
     fn told(&self, replies: &[HostReply]);
 }
 
@@ -52,14 +52,14 @@ impl HostReports for Silent {
     fn told(&self, _replies: &[HostReply]) {}
 }
 
-/// How a connection went, beside the result of `Connection::converse`.
+/// The state of a socket at the end of its connection.
 #[derive(Clone, Copy)]
 pub(crate) struct Course {
     pub(crate) saw_end: bool,
     pub(crate) is_idle: bool,
 }
 
-/// Returns why a connection ended, unless it ended cleanly.
+/// Returns the cause of a connection's end, unless it ended cleanly.
 pub(crate) fn cause_of(ended: &Result<Ended, RequestError>, course: Course) -> Option<Cause>
     ensures { IsCause course ended.now result }
 {
@@ -72,7 +72,7 @@ pub(crate) fn cause_of(ended: &Result<Ended, RequestError>, course: Course) -> O
     }
 }
 
-/// Returns why a connection ended with this fault.
+/// Returns the cause of a connection's end with this fault.
 fn cause_of_fault(fault: Fault, course: Course) -> Cause
     ensures { IsCauseOf course fault result }
 {

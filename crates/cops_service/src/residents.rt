@@ -56,7 +56,7 @@ struct Entered<S: Site> {
 #[derive(Drop)]
 pub(crate) struct Residents<S: Site> {
     entered: Mutex<Vec<Entered<S>>>,
-    // How often a tenant has left. It is counted after the tenant was removed.
+    // The number of tenants that have left. A tenant is counted after it was removed.
     departures: AtomicU64,
 }
 
@@ -199,7 +199,7 @@ impl<S: Site> Residents<S> {
         self.departures.fetch_add(1, Ordering::SeqCst);
     }
 
-    /// Returns how often a tenant has left. While this stays the same, those who are here stay.
+    /// Returns the number of tenants that have left. While it stays the same, all residents stay.
     pub(crate) fn departures(&self) -> u64 {
         self.departures.load(Ordering::SeqCst)
     }

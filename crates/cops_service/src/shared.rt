@@ -1,4 +1,4 @@
-//! What threads of a service share, and what those that help keep.
+//! The state that the threads of a service share, and the states of the carrier and the collector.
 
 use crate::cluster::Cluster;
 use crate::dues::Collecting;
@@ -9,7 +9,7 @@ use crate::waiting::Waiting;
 use cops_types::{Config, Machine};
 use std::alloc::Global;
 
-/// What all threads of a service share.
+/// The state that all threads of a service share.
 #[derive_where(Clone, Copy)]
 pub(crate) struct Shared<'a, R, L, M: Machine> {
     pub(crate) rt: &'a R,
@@ -21,14 +21,14 @@ pub(crate) struct Shared<'a, R, L, M: Machine> {
     pub(crate) totals: &'a Totals,
 }
 
-/// What the thread that carries keeps: the work items that it has taken, and until when it waits for others.
+/// The carrier's state: the streams that it has taken from the list, and those that wait.
 #[derive(Drop)]
 pub(crate) struct Carrying {
     pub(crate) streams: Vec<Stream>,
     pub(crate) waiting: Waiting,
 }
 
-/// What the threads that carry and collect keep.
+/// The states of the carrier and the collector.
 #[derive(Drop)]
 pub(crate) struct Helpers {
     pub(crate) carrying: Carrying,

@@ -8,20 +8,20 @@ use std::os::fd::OwnedFd;
 use std::sync::atomic::{AtomicU64, Ordering};
 use std::time::{Clock, Duration};
 
-/// Means that nobody has asked yet.
+/// Means that nobody has asked for the end.
 const NOT_ASKED: u64 = u64::MAX;
 
 /// Lets another thread end a service: it stops accepting, and open connections may finish their requests.
 #[derive(Drop)]
 pub struct Stop {
-    // When somebody asked, in milliseconds of the monotonic clock.
+    // Somebody asked then, in milliseconds of the monotonic clock.
     asked: AtomicU64,
     // The listener's socket under another descriptor.
     listener: Option<TcpStream>,
 }
 
 impl Stop {
-    /// Returns a stop that nobody can ask for.
+    /// Returns the signal of a service without a listener to shut down.
     pub fn never() -> Stop
         ensures { result.listener ≡ None }
     {
@@ -31,7 +31,7 @@ impl Stop {
         }
     }
 
-    /// Returns a stop for the service that listens here. Fails if the process may open no more descriptors.
+    /// Returns the signal of the service that listens here. Fails if the process may open no more descriptors.
     pub fn of(listener: &TcpListener) -> io::Result<Stop>
         ensures { IfOk result (λ stop. IsSome stop.listener) }
     {
@@ -42,7 +42,7 @@ impl Stop {
         })
     }
 
-    /// Asks for the end, and shuts the listener down, so that no thread waits for it.
+    /// Asks for the end, and shuts the listener down, so that no thread waits for a connection.
     pub fn ask<C: Clock>(&self, clock: &C) {
         self.asked.store(millis(clock), Ordering::SeqCst);
         if let Some(listener) = &self.listener {

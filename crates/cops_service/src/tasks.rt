@@ -17,9 +17,9 @@ use std::thread;
 use std::thread::{Promise, PromisedHandle, Threads};
 use std::time::Clock;
 
-/// What a thread does with a seat of type `S`, which it gives back.
+/// A thread's task with a seat of type `S`. The thread gives the seat back.
 pub(crate) trait Task<S> {
-    /// It can be done.
+    /// The task can be done.
     ghost is_ready: { Self → Type 0 };
 
     /// The thread may begin with this seat.
@@ -64,14 +64,14 @@ pub(crate) struct Job<S, K> {
     pub(crate) task: K,
 }
 
-/// How a service ended whose threads were all started, and the seats that they gave back.
+/// The end of a service whose threads were all started, and the seats that they gave back.
 #[derive(Drop)]
 pub(crate) struct Finished<S> {
     pub(crate) end: ServiceEnd,
     pub(crate) seats: Vec<S>,
 }
 
-/// What threads left, with the seats that they gave back.
+/// Results of threads, to which another thread's seat is added.
 pub(crate) trait Gathered<S>: Send + Drop {
     /// The seat is added.
     ghost adds: { Self → S → Self → Type 0 };
@@ -93,7 +93,7 @@ impl<S: Send + Drop> Gathered<S> for Finished<S> {
     }
 }
 
-// Waits for threads that do one task, and adds their seats.
+// Waits for threads that do the same task, and adds their seats.
 fn join_each<R: Threads, S: Drop, K: Task<S>>(
     rt: &R,
     task: &K,
@@ -160,7 +160,7 @@ where
         {
             let count = seats.len();
             let mut workers: Vec<Doing<S, K>> = Vec::with_capacity(alloc, count)?;
-            // (with room for the seats of the threads beside them)
+            // It has room for the seats of the threads beside the workers.
             let ended = Vec::with_capacity(alloc, count.saturating_add(3))?;
             for seat in seats {
                 let Ok(worker) = scope.spawn_with(
@@ -181,7 +181,7 @@ where
     )
 }
 
-// Serves beside a thread that does a job until its list of work items has ended. Returns none if that thread can't be
+// Serves beside a thread that does a job until its work queue has ended. Returns none if that thread can't be
 // started.
 fn serve_beside<'a, R, S, N, H, F, G>(
     rt: &'a R,

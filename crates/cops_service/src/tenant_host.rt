@@ -19,9 +19,9 @@ pub struct TenantHost<'a, R: Wait> {
 }
 
 impl<R: Wait> TenantHost<'_, R> {
-    /// Admits a tenant to the least free slot, in a life with a new number: at all nodes, or at none. Is refused with
-    /// `NameTaken` if an open tenant has that name or token, then with `NoSlot` if no slot is free. The roster has the tenant only
-    /// once all nodes have it.
+    /// Admits a tenant to the least free slot, in a life with a new number: at all nodes, or at none. The roster has the tenant
+    /// only once all nodes have it. Fails with `NameTaken` if an open tenant has that name or token. Then it fails with
+    /// `NoSlot` if no slot is free.
     pub fn admit(&mut self, tenant: Tenant) -> Result<Life, RequestError>
         requires clock { tenant.first_clock ≤ last_clock }
         ensures cluster { self.new.desk.cluster.now ≡ self.old.desk.cluster.now }

@@ -1,4 +1,4 @@
-//! What the threads of a service whose tenants are fixed do.
+//! The tasks of the threads of a service whose tenants are fixed.
 ghost use Rattle.std.specs.Prelude.{◌≡◌, ℕ, length, IfOk, IfSome, IsTrue};
 ghost use Rattle.std.specs.List.{AllByRecursion};
 ghost use Rattle.std.specs.Thread.{IsSend, IsSync};
@@ -58,7 +58,7 @@ fn serve_stream<R: Clock, L: Reports, N: Nodes, T: Moments>(
         shared.listening.options.idle,
     );
     let ended = serve_line(shared.alloc, config, &line, nodes, moments);
-    // (closing reads on, so what the client did until then is asked first)
+    // Closing reads on. So the state is taken before.
     let course = line.course();
     line.close();
     conclude(
@@ -175,7 +175,7 @@ fn collect_at_desk<R: Wait + Clock, L: Reports, T: Moments>(
     );
 }
 
-/// A worker serves connections until none follows.
+/// A worker's task: serves connections until none follows.
 #[derive_where(Clone, Copy; T)]
 struct Serves<'a, 'b, R, L, T> {
     shared: Shared<'a, R, L, Node>,
@@ -214,7 +214,7 @@ impl<R: Wait + Clock, L: Reports, T: Moments + Copy> Task<ClusterSeat<Node>>
     }
 }
 
-/// The carrier carries until no stream follows.
+/// The carrier's task: carries until no stream follows.
 #[derive(Drop)]
 struct Carries<'a, R, L, T> {
     shared: Shared<'a, R, L, Node>,
@@ -258,7 +258,7 @@ impl<R: Wait + Clock, L: Reports, T: Moments + Copy> Task<ClusterSeat<Node>>
     }
 }
 
-/// The collector collects until no place follows.
+/// The collector's task: collects until no place follows.
 #[derive(Drop)]
 struct Collects<'a, R, L, T> {
     shared: Shared<'a, R, L, Node>,

@@ -1,4 +1,4 @@
-//! Streams whose head could not be carried, until their next try.
+//! Streams that wait for their next try, since their head could not be carried.
 ghost use Rattle.std.specs.Prelude.{◌≡◌, ◌≢◌, ◌-◌, ◌*◌, ◌%◌, ◌^◌, ◌<◌, ◌≤◌, [], None, false, max, min, slice_get, slice_set, IfNone, IfOk, IfSome, IsSomeAnd};
 ghost use Rattle.std.specs.Duration.{as_nanos};
 ghost use Rattle.std.specs.Vec.{vec_capacity, vec_len};
@@ -20,15 +20,15 @@ const LONGEST: u64 = 1000;
 #[derive(Clone, Copy)]
 struct Pause {
     is_kept: bool,
-    // The life of its stream. That of an earlier life is forgotten.
+    // The life of its stream. The pause of an earlier life is forgotten.
     life: u64,
-    // Its length.
+    // The pause's length.
     length: u64,
-    // When it ends.
+    // The pause ends then.
     over: u64,
 }
 
-/// Streams that wait, each with a pause. No call allocates.
+/// Streams that wait, each for a pause. No call allocates.
 #[derive(Drop)]
 pub(crate) struct Waiting {
     sizes: Sizes,

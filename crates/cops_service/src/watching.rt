@@ -31,7 +31,7 @@ pub(crate) struct Stay<'a, R, S: Site> {
     rt: &'a R,
     residents: &'a Residents<S>,
     life: Option<Life>,
-    // How many tenants had left when the residents had it.
+    // The number of departures when the residents last had the life.
     departures: u64,
 }
 
@@ -176,7 +176,7 @@ impl<I: Read, L: Lasting> Read for Watched<'_, I, L> {
             (I.remaining self.new.incoming))
             result buf.new }
 
-        // Before the end of the life is seen, bytes are given only if it goes on, and kept only if it doesn't.
+        // While no bytes are kept, bytes are given only if the life goes on, and kept only if it doesn't.
         ensures open { self.old.kept.items ≡ [] → IfOk result (λ count. (count ≡ 0)
             ⊎ L.Says self.old.life true self.new.life) }
         ensures over { self.old.kept.items ≡ [] → (self.new.kept.items ≡ [])
