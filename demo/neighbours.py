@@ -216,7 +216,7 @@ WAYS = (
     ("isn't there", absent),
     ("acts before acme", first),
     ("acts after acme", last),
-    ("sends three lines, between acme's in every way", everywhere),
+    ("sends three lines at all places", everywhere),
     ("puts acme's keys and collects", busy),
     ("does it at the last moment", latest),
     ("replicates both ways", carried),

@@ -16,8 +16,9 @@ class Script:
 
     @classmethod
     def read(cls, name):
-        """The script in a file of this folder."""
-        lines = (HERE / name).read_text().splitlines()
+        """The script in a file: a path, or a name in this folder."""
+        path = pathlib.Path(name)
+        lines = (path if path.is_file() else HERE / name).read_text().splitlines()
         begin = lines.index("begin")
         return cls(lines[0], lines[1:begin], lines[begin + 1 :])
 
