@@ -65,7 +65,7 @@ class Lines(unittest.TestCase):
         with socket.create_server(("127.0.0.1", 0)) as taken:
             address = f"127.0.0.1:{taken.getsockname()[1]}"
             ended = run([address])
-        self.assertEqual((ended.returncode, ended.stdout, ended.stderr), (1, "", f"cops: cannot listen on {address}\ncops: E26\n"))
+        self.assertEqual((ended.returncode, ended.stdout, ended.stderr), (1, "", f"cops: cannot listen on {address}: Address already in use (os error 98)\ncops: E26\n"))
 
     def test_a_bad_head_has_no_other_line(self):
         ended = run(["127.0.0.1:0"], "cluster 1 1 5000\nbegin\n")
