@@ -11,7 +11,7 @@ use Rattle.std.proofs.lemmas.List.Sums.{sum_by-append, sum_by-cons}
 use Rattle.cops_types.specs.declared.records.Record.{Record}
 use Rattle.cops_types.specs.declared.records.Dated.{Dated}
 use Rattle.cops_store.specs.declared.usage.InUse.{InUse}
-use Rattle.cops_store.specs.Chains.{AreStaleInOrder, HasLatest, earlier, is_no_later, latest_row, oldest_of}
+use Rattle.cops_store.specs.Chains.{AreStaleInOrder, HasLatest, is_by, is_covered, earlier, is_no_later, latest_row, oldest_of}
 use Rattle.cops_store.specs.Contents.{is_ripe}
 use Rattle.cops_store.specs.Tables.{gone_use}
 use Rattle.cops_store.proofs.Lists.{each_append}
@@ -39,22 +39,56 @@ by_place (k ∷ rows) h zero (suc j) d le lt = no_later_at k.stale rows j d h.0 
 by_place (k ∷ rows) h (suc i) zero d le lt = absurd (omega arith)
 by_place (k ∷ rows) h (suc i) (suc j) d le lt = by_place rows h.1 i j d (omega arith) (omega arith)
 
+-- ---- rows that are stale by a timestamp
+is_by-later : (m n : ℕ) (o : Option ℕ) → m ≤ n → is_by m o ≡ true → is_by n o ≡ true
+is_by-later m n None le e = absurd (true≢false (sym e))
+is_by-later m n (Some a) le e = grind (arith, nat_tests, e, le)
+
+all_by-later : (m n : ℕ) (rows : List Dated) → m ≤ n → AllByRecursion (λ k. is_by m k.stale ≡ true) rows → AllByRecursion (λ k. is_by n k.stale ≡ true) rows
+all_by-later m n [] le h = tt
+all_by-later m n (k ∷ rows) le h = (is_by-later m n k.stale le h.0, all_by-later m n rows le h.1)
+
+no_later-by : (m : ℕ) (o : Option ℕ) → is_no_later o (Some m) ≡ true → is_by m o ≡ true
+no_later-by m None e = absurd (true≢false (sym e))
+no_later-by m (Some a) e = e
+
+by-no_later : (m n : ℕ) (o : Option ℕ) → m ≤ n → is_by m o ≡ true → is_no_later o (Some n) ≡ true
+by-no_later m n None le e = absurd (true≢false (sym e))
+by-no_later m n (Some a) le e = grind (arith, nat_tests, e, le)
+
+-- by the last, if they are in order
+pub by_last : (rows : List Dated) (last : Dated) (m i : ℕ) → AreStaleInOrder rows → last.stale ≡ Some m → i + 1 ≡ length rows → last ≡ get_or rows i last → AllByRecursion (λ k. is_by m k.stale ≡ true) rows
+by_last [] last m i h is len at = tt
+by_last (k ∷ []) last m zero h is len at = (no_later-by m k.stale (subst (λ o. is_no_later k.stale o ≡ true) (ap (λ (x : Dated). x.stale) (sym at) ∙ is) (no_later-refl k.stale)), tt)
+by_last (k ∷ []) last m (suc j) h is len at = absurd (omega (arith, len))
+by_last (k ∷ l ∷ rows) last m zero h is len at = absurd (omega (arith, len))
+by_last (k ∷ l ∷ rows) last m (suc j) h is len at =
+    let up = no_later_at k.stale (l ∷ rows) j last h.0 (omega (arith, len)) in
+    (no_later-by m k.stale (subst (λ o. is_no_later k.stale o ≡ true) (ap (λ (x : Dated). x.stale) (sym at) ∙ is) up), by_last (l ∷ rows) last m j h.1 is (omega (arith, len)) at)
+
 -- ---- one more at the end
-with_last : (rows : List Dated) (row d : Dated) (i : ℕ) → AreStaleInOrder rows → i + 1 ≡ length rows → is_no_later (get_or rows i d).stale row.stale ≡ true → AreStaleInOrder (rows ++ row ∷ [])
-with_last [] row d i h e last = absurd (omega (arith, e))
-with_last (k ∷ []) row d zero h e last = ((last, tt), (tt, tt))
-with_last (k ∷ []) row d (suc i) h e last = absurd (omega (arith, e))
-with_last (k ∷ l ∷ rows) row d zero h e last = absurd (omega (arith, e))
-with_last (k ∷ l ∷ rows) row d (suc i) h e last =
-    let up = no_later_at k.stale (l ∷ rows) i d h.0 (omega (arith, e)) in
-    (each_append (λ (x : Dated). is_no_later k.stale x.stale ≡ true) (l ∷ rows) (row ∷ []) h.0 (no_later-trans k.stale (get_or (l ∷ rows) i d).stale row.stale up last, tt), with_last (l ∷ rows) row d i h.1 (omega (arith, e)) last)
+with_last : (rows : List Dated) (row : Dated) (m n : ℕ) → row.stale ≡ Some n → m ≤ n → AreStaleInOrder rows → AllByRecursion (λ k. is_by m k.stale ≡ true) rows → AreStaleInOrder (rows ++ row ∷ [])
+with_last [] row m n is le h by = (tt, tt)
+with_last (k ∷ rows) row m n is le h by =
+    (each_append (λ (x : Dated). is_no_later k.stale x.stale ≡ true) rows (row ∷ []) h.0 (subst (λ o. is_no_later k.stale o ≡ true) (sym is) (by-no_later m n k.stale le by.0), tt), with_last rows row m n is le h.1 by.1)
 
-pub inserted_last : (rows : List Dated) (row d : Dated) (i j : ℕ) → AreStaleInOrder rows → i + 1 ≡ length rows → j ≡ length rows → is_no_later (get_or rows i d).stale row.stale ≡ true → AreStaleInOrder (insert rows j row)
-inserted_last rows row d i j h e same last = subst (λ m. AreStaleInOrder (insert rows m row)) (sym same) (subst AreStaleInOrder (sym (insert_end rows row)) (with_last rows row d i h e last))
+pub in_order_with : (rows : List Dated) (row : Dated) (m n i : ℕ) → i ≡ length rows → row.stale ≡ Some n → m ≤ n → AreStaleInOrder rows × AllByRecursion (λ k. is_by m k.stale ≡ true) rows
+    → AreStaleInOrder (insert rows i row) × AllByRecursion (λ k. is_by n k.stale ≡ true) (insert rows i row)
+in_order_with rows row m n i end is le h =
+    subst (λ j. AreStaleInOrder (insert rows j row) × AllByRecursion (λ k. is_by n k.stale ≡ true) (insert rows j row)) (sym end)
+    (subst (λ xs. AreStaleInOrder xs × AllByRecursion (λ k. is_by n k.stale ≡ true) xs) (sym (insert_end rows row))
+    (with_last rows row m n is le h.0 h.1, each_append (λ (k : Dated). is_by n k.stale ≡ true) rows (row ∷ []) (all_by-later m n rows le h.1) (last, tt)))
+  where
+    itself : is_by n (Some n) ≡ true
+    itself = grind (arith, nat_tests)
 
-pub inserted_first : (rows : List Dated) (row : Dated) (j : ℕ) → length rows ≡ 0 → j ≡ length rows → AreStaleInOrder (insert rows j row)
-inserted_first [] row j e same = subst (λ m. AreStaleInOrder (insert [] m row)) (sym same) (tt, tt)
-inserted_first (k ∷ rows) row j e same = absurd (omega (arith, e))
+    last : is_by n row.stale ≡ true
+    last = subst (λ o. is_by n o ≡ true) (sym is) itself
+
+-- ---- whether a commit needs a new note
+pub covered_by : (at m : ℕ) (latest : Option Record) (older : List Dated) → 0 < length older → m ≤ at → AllByRecursion (λ k. is_by m k.stale ≡ true) older → is_covered at (older ++ latest_row latest) ≡ true
+covered_by at m latest [] some le h = absurd (omega (arith, some))
+covered_by at m latest (k ∷ older) some le h = is_by-later m at k.stale le h.0
 
 default_free : (rows : List Dated) (i : ℕ) (d e : Dated) → i < length rows → get_or rows i d ≡ get_or rows i e
 default_free [] i d e lt = absurd (omega arith)
@@ -171,6 +205,11 @@ pub order_dropped : (n : ℕ) (rows : List Dated) → AreStaleInOrder rows → A
 order_dropped zero rows h = h
 order_dropped (suc n) [] h = tt
 order_dropped (suc n) (k ∷ rows) h = order_dropped n rows h.1
+
+pub by_dropped : (n m : ℕ) (rows : List Dated) → AllByRecursion (λ k. is_by m k.stale ≡ true) rows → AllByRecursion (λ k. is_by m k.stale ≡ true) (drop n rows)
+by_dropped zero m rows h = h
+by_dropped (suc n) m [] h = tt
+by_dropped (suc n) m (k ∷ rows) h = by_dropped n m rows h.1
 
 pub latest_dropped : (n : ℕ) (rows : List Dated) (latest : Option Record) → HasLatest rows latest → HasLatest (drop n rows) latest
 latest_dropped n rows (Some m) h = tt

@@ -6,7 +6,7 @@ use Rattle.cops_types.specs.declared.records.Record.{Record}
 use Rattle.cops_types.specs.declared.records.Dated.{Dated}
 use Rattle.std.proofs.lemmas.List.Edits.{insert_end}
 use Rattle.cops_types.proofs.VersionOrder.{version_cmp-lt}
-use Rattle.cops_store.specs.Chains.{AreStaleInOrder, KeptChain, Rises, fresh_row, is_below, latest_row, placed}
+use Rattle.cops_store.specs.Chains.{AreStaleInOrderBy, KeptChain, Rises, fresh_row, is_below, latest_row, placed}
 use Rattle.cops_store.proofs.Chains.{ascends_front, placed_after, placed_among, prefix_within}
 use Rattle.cops_store.proofs.chain.Chain.put.Goals as goal
 
@@ -49,8 +49,8 @@ returns-else-lt c =
     ap (λ rows. rows ++ fresh_row m ∷ []) (e ∙ (λ i. insert c.self.inside.older.items (at i) (record { record_of = (c.newest.view_is ∙ c.of-newest.ensures) i; stale = Some n.at })))
     ∙ placed_among n m c.self.inside.older.items above ∙ ap (placed n) shown
 
-pub stay_in_order-self-inside-requires-else-lt-clause-within : goal.stay_in_order-self-inside-requires-else-lt-clause-within
-stay_in_order-self-inside-requires-else-lt-clause-within c =
+pub stale_by_with-self-inside-requires-else-lt-clause-within : goal.stale_by_with-self-inside-requires-else-lt-clause-within
+stale_by_with-self-inside-requires-else-lt-clause-within c =
     let within = prefix_within (is_below c.newest.inside.version) c.self.inside.older.items in
     omega (arith, within, c.place_of-i.ensures)
 
@@ -60,4 +60,5 @@ invariant_of-self c =
     let rows = c.self.inside.older.items in
     let before : Dated = record { record_of = c.latest.inside.record_of; stale = Some c.args.record_of.at } in
     let len : c.len-i.result ≡ length rows = c.len-i.ensures ∙ c.self.inside.older.ok.0 in
-    (tt, (λ yes. subst AreStaleInOrder (sym e) (subst AreStaleInOrder (insert_end rows before) (subst (λ n. AreStaleInOrder (insert rows n before)) len (c.stay_in_order-self-inside.ensures yes before refl)))))
+    let by = c.stale_by_with-self-inside.result in
+    (tt, subst (AreStaleInOrderBy by) (sym e) (subst (AreStaleInOrderBy by) (insert_end rows before) (subst (λ n. AreStaleInOrderBy by (insert rows n before)) len (c.stale_by_with-self-inside.ensures before refl))))
