@@ -1,5 +1,5 @@
 -- The pages of an audit.
-use Rattle.std.proofs.Common.{◌≡◌, ◌≢◌, ℕ, zero, suc, ◌+◌, ◌*◌, ◌<◌, ◌≤◌, inl, inr, Bool, true, false, List, [], ◌∷◌, ◌++◌, length, map, refl, sym, ap, ◌∙◌, subst, arith, get_or, set, append-nil, append_assoc, Bor, true≢false, Vec, Global}
+use Rattle.std.proofs.Common.{◌≡◌, ◌≢◌, ℕ, zero, suc, ◌+◌, ◌*◌, ◌^◌, ◌<◌, ◌≤◌, inl, inr, true, false, List, [], ◌∷◌, ◌++◌, length, map, refl, sym, ap, ◌∙◌, subst, arith, get_or, set, append-nil, append_assoc, Bor, true≢false, Vec, Global}
 use Rattle.std.specs.Prelude.{◌-◌, ◌/◌, ◌%◌, slice_get, Option, Some, None, IsSome, is_some, nat_lt, replicate, Result, Ok, Err, OnOk}
 use Rattle.std.specs.Option.{option_copied}
 use Rattle.std.specs.Slice.{IsItemAt}
@@ -12,7 +12,7 @@ use Rattle.std.proofs.lemmas.Option.{slice_get-get_or, slice_get_past}
 use Rattle.cops_model.specs.declared.calls.AuditEntry.{AuditEntry}
 use Rattle.cops_node.specs.declared.pages.Page.{Page}
 use Rattle.cops_node.specs.declared.pages.PageList.{PageList}
-use Rattle.cops_node.specs.Pages.{AreBelow, AuditLists, AreNumbered, ArePages, IsEarlier, IsListTurn, IsPageAdded, IsPageChain, IsPageList, IsPageOf, IsRefilled, OtherPagesStay, PAGE, before_in, calls_in, calls_to, list_at, no_pages, number_of_page, page_at, calls_of_page, skip_in, spare_for, spare_in, spare_of, spare_to}
+use Rattle.cops_node.specs.Pages.{AreBelow, AuditLists, AreNumbered, ArePages, IsEarlier, IsListTurn, IsPageAdded, IsPageChain, IsPageList, IsPageOf, IsRefilled, OtherPagesStay, PAGE, before_in, calls_in, calls_to, list_at, no_pages, number_of_page, page_at, calls_of_page, skip_in, spare_for, spare_in, spare_of, spare_to, has_room_to}
 use Rattle.cops_node.specs.Parts.{trail_of}
 use Rattle.cops_node.proofs.Admissions.{padded_read}
 use Rattle.cops_node.proofs.Slots.{map_read, some_same, some_there}
@@ -82,7 +82,7 @@ other_list slot other pages pages' list differ stay h =
         rows = h.rows;
         fits = h.fits;
         chain = kept.0;
-        counted = h.counted ∙ ap length (sym kept.1);
+        countable = subst (λ es. length es < 2 ^ 64) (sym kept.1) h.countable;
         below = λ x p read own. h.below x p (there x p read own) own;
         numbered = λ x x' p p' read read' own own' same. h.numbered x x' p p' (there x p read own) (there x' p' read' own') own own' same;
       },
@@ -253,7 +253,7 @@ module _ (pages pages' : List (Option Page)) (slot n last : ℕ) (calls : List A
   }
 
   pub list_refilled : (list list' : PageList) → IsPageList pages slot list → list.pages ≡ suc n → list.last ≡ last → list'.pages ≡ list.pages → list'.last ≡ last → length calls ≤ PAGE
-      → list'.count ≡ length (calls_to pages n (before_in (page_at pages last)) ++ calls)
+      → length (calls_to pages n (before_in (page_at pages last)) ++ calls) < 2 ^ 64
       → IsListTurn pages pages' slot list' × (calls_in pages' list' ≡ calls_to pages n (before_in (page_at pages last)) ++ calls)
   list_refilled list list' h many at many' at' small count =
       let old : IsPageChain pages slot h.rows (suc n) last = subst (λ k. IsPageChain pages slot h.rows k last) many (subst (IsPageChain pages slot h.rows list.pages) at h.chain) in
@@ -265,7 +265,7 @@ module _ (pages pages' : List (Option Page)) (slot n last : ℕ) (calls : List A
             rows = length calls;
             fits = small;
             chain = subst (λ k. IsPageChain pages' slot (length calls) k list'.last) (sym many2) (subst (IsPageChain pages' slot (length calls) (suc n)) (sym at') new.0);
-            counted = count ∙ ap length (sym calls_are);
+            countable = subst (λ es. length es < 2 ^ 64) (sym calls_are) count;
             below = λ x q read own. let p = refilled_from x q read in let lt = h.below x p.0 p.1 (p.2 ∙ own) in let same = p.3 in omega arith;
             numbered = λ x x' q q' read read' own own' same.
                 let p = refilled_from x q read in
@@ -284,37 +284,43 @@ last_there pages slot list h some =
     page_there pages slot n.0 list.last (subst (λ k. IsPageChain pages slot h.rows k list.last) n.1 h.chain).0
 
 -- whether the last page is full, by the numbers of calls and of pages
-last_rows : (pages : List (Option Page)) (slot : ℕ) (list : PageList) (n : ℕ) → (h : IsPageList pages slot list) → list.pages ≡ suc n → (length (calls_of_page (page_at pages list.last)) ≡ h.rows) × (list.count ≡ n * PAGE + h.rows)
+last_rows : (pages : List (Option Page)) (slot : ℕ) (list : PageList) (n : ℕ) → (h : IsPageList pages slot list) → list.pages ≡ suc n → (length (calls_of_page (page_at pages list.last)) ≡ h.rows) × (length (calls_in pages list) ≡ n * PAGE + h.rows)
 last_rows pages slot list n h many =
     let chain = subst (λ k. IsPageChain pages slot h.rows k list.last) many h.chain in
-    (chain.1, h.counted ∙ ap (λ k. length (calls_to pages k list.last)) many ∙ chain_length pages slot h.rows n list.last chain)
+    (chain.1, ap (λ k. length (calls_to pages k list.last)) many ∙ chain_length pages slot h.rows n list.last chain)
 
-pub room_in_last : (pages : List (Option Page)) (slot : ℕ) (list : PageList) → IsPageList pages slot list → list.count / PAGE < list.pages → length (calls_of_page (page_at pages list.last)) < PAGE
-room_in_last pages slot list h lt =
-    let some : 0 < list.pages = omega arith in
-    let n = some_pages list.pages some in
-    let many = n.1 in
-    let last = last_rows pages slot list n.0 h n.1 in
-    let long = last.0 in
-    let count = last.1 in
-    let fits = h.fits in
-    let parts = div-add-mod' list.count PAGE in
-    let rest : list.count % PAGE < PAGE = mod-lt list.count (omega arith) in
-    omega arith
+pub room_in_last : (pages : List (Option Page)) (slot : ℕ) (list : PageList) → IsPageList pages slot list → has_room_to pages list.pages list.last ≡ true
+    → (0 < list.pages) × (length (calls_of_page (page_at pages list.last)) < PAGE)
+room_in_last pages slot list h room = by list.pages room
+  where
+    by : (k : ℕ) → has_room_to pages k list.last ≡ true → (0 < k) × (length (calls_of_page (page_at pages list.last)) < PAGE)
+    by zero room = absurd (true≢false (sym room))
+    by (suc n) room = (omega arith, grind (arith, nat_tests, room))
 
-pub last_is_full : (pages : List (Option Page)) (slot : ℕ) (list : PageList) → IsPageList pages slot list → list.pages ≤ list.count / PAGE → IsPageChain pages slot PAGE list.pages list.last
-last_is_full pages slot list h le = by list.pages refl
+pub last_is_full : (pages : List (Option Page)) (slot : ℕ) (list : PageList) → IsPageList pages slot list → has_room_to pages list.pages list.last ≡ false → IsPageChain pages slot PAGE list.pages list.last
+last_is_full pages slot list h none = by list.pages refl
   where
     by : (k : ℕ) → list.pages ≡ k → IsPageChain pages slot PAGE list.pages list.last
     by zero many = subst (λ k. IsPageChain pages slot PAGE k list.last) (sym many) tt
     by (suc n) many =
         let last = last_rows pages slot list n h many in
-        let count = last.1 in
+        let long = last.0 in
         let fits = h.fits in
-        let parts = div-add-mod' list.count PAGE in
-        let rest : list.count % PAGE < PAGE = mod-lt list.count (omega arith) in
-        let full : h.rows ≡ PAGE = omega arith in
+        let test : nat_lt (length (calls_of_page (page_at pages list.last))) PAGE ≡ false = sym (ap (λ k. has_room_to pages k list.last) many) ∙ none in
+        let least : PAGE ≤ length (calls_of_page (page_at pages list.last)) = grind (arith, nat_tests, test) in
+        let full : h.rows ≡ PAGE = omega (arith, long, fits, least) in
         subst (λ r. IsPageChain pages slot r list.pages list.last) full h.chain
+
+-- the number of calls, by the pages and the calls of the last
+pub calls_counted : (pages : List (Option Page)) (slot : ℕ) (list : PageList) (page : Page) → IsPageList pages slot list → 0 < list.pages → page_at pages list.last ≡ Some page
+    → length (calls_in pages list) ≡ (list.pages - 1) * PAGE + length page.rows.items
+calls_counted pages slot list page h some is =
+    let n = some_pages list.pages some in
+    let many = n.1 in
+    let last = last_rows pages slot list n.0 h n.1 in
+    let long : length page.rows.items ≡ h.rows = ap (λ o. length (calls_of_page o)) (sym is) ∙ last.0 in
+    let before : list.pages - 1 ≡ n.0 = omega (arith, many) in
+    last.1 ∙ (λ i. sym before i * PAGE + sym long i)
 
 -- room was made in the last page
 pub list_widened : (pages pages' : List (Option Page)) (slot : ℕ) (list : PageList) → IsPageList pages slot list → 0 < list.pages → IsRefilled pages pages' list.last (calls_of_page (page_at pages list.last))
@@ -325,14 +331,14 @@ list_widened pages pages' slot list h some is =
     let long = last.0 in
     let fits = h.fits in
     let whole : calls_in pages list ≡ calls_to pages (suc n.0) list.last = ap (λ k. calls_to pages k list.last) n.1 in
-    let turn = list_refilled pages pages' slot n.0 list.last (calls_of_page (page_at pages list.last)) is list list h n.1 refl refl refl (omega arith) (h.counted ∙ ap length whole) in
+    let turn = list_refilled pages pages' slot n.0 list.last (calls_of_page (page_at pages list.last)) is list list h n.1 refl refl refl (omega arith) (subst (λ es. length es < 2 ^ 64) whole h.countable) in
     (turn.0, turn.1 ∙ sym whole)
 
 -- a call joined the last page
-pub list_noted : (pages pages' : List (Option Page)) (slot : ℕ) (list list' : PageList) (row : AuditEntry) → IsPageList pages slot list → 0 < list.pages → length (calls_of_page (page_at pages list.last)) < PAGE
-    → IsRefilled pages pages' list.last (calls_of_page (page_at pages list.last) ++ row ∷ []) → list'.pages ≡ list.pages → list'.last ≡ list.last → list'.count ≡ list.count + 1
-    → IsListTurn pages pages' slot list' × (calls_in pages' list' ≡ calls_in pages list ++ row ∷ [])
-list_noted pages pages' slot list list' row h some small is many' last' count' =
+pub list_noted : (pages pages' : List (Option Page)) (slot : ℕ) (list : PageList) (row : AuditEntry) → IsPageList pages slot list → 0 < list.pages → length (calls_of_page (page_at pages list.last)) < PAGE
+    → IsRefilled pages pages' list.last (calls_of_page (page_at pages list.last) ++ row ∷ []) → length (calls_in pages list) + 1 < 2 ^ 64
+    → IsListTurn pages pages' slot list × (calls_in pages' list ≡ calls_in pages list ++ row ∷ [])
+list_noted pages pages' slot list row h some small is countable =
     let n = some_pages list.pages some in
     let rows : List AuditEntry = calls_of_page (page_at pages list.last) in
     let front : List AuditEntry = calls_to pages n.0 (before_in (page_at pages list.last)) in
@@ -340,7 +346,7 @@ list_noted pages pages' slot list list' row h some small is many' last' count' =
     let more : front ++ (rows ++ row ∷ []) ≡ calls_in pages list ++ row ∷ [] = sym (append_assoc front rows (row ∷ [])) ∙ ap (λ es. es ++ row ∷ []) (sym whole) in
     let one : length (rows ++ row ∷ []) ≡ length rows + 1 = length-append rows (row ∷ []) in
     let all : length (calls_in pages list ++ row ∷ []) ≡ length (calls_in pages list) + 1 = length-append (calls_in pages list) (row ∷ []) in
-    let turn = list_refilled pages pages' slot n.0 list.last (rows ++ row ∷ []) is list list' h n.1 refl many' last' (omega arith) (count' ∙ ap (λ k. k + 1) h.counted ∙ sym all ∙ ap length (sym more)) in
+    let turn = list_refilled pages pages' slot n.0 list.last (rows ++ row ∷ []) is list list h n.1 refl refl refl (omega arith) (subst (λ es. length es < 2 ^ 64) (sym more) (omega (arith, all, countable))) in
     (turn.0, turn.1 ∙ more)
 
 -- room for a call is only in a page
@@ -424,7 +430,7 @@ module _ (pages pages' : List (Option Page)) (slot : ℕ) (list list' : PageList
         rows = 0;
         fits = omega arith;
         chain = subst (λ k. IsPageChain pages' slot 0 k list'.last) (sym more_pages) chain_added;
-        counted = is.count_is ∙ h.counted ∙ ap length (sym calls_added);
+        countable = subst (λ es. length es < 2 ^ 64) (sym calls_added) h.countable;
         below = below_added;
         numbered = numbered_added;
       };
@@ -483,13 +489,13 @@ module _ (first pages pages' : List (Option Page)) (slot n last : ℕ) (h : HasP
     from = λ x q read differ. stay.from x q (left_there x q read).1 differ;
   }
 
-pub none_left : (first pages : List (Option Page)) (slot last : ℕ) (list : PageList) → HasPages pages slot 0 last → OtherPagesStay slot first pages → list.pages ≡ 0 → list.count ≡ 0 → IsListTurn first pages slot list
-none_left first pages slot last list h stay many count = record {
+pub none_left : (first pages : List (Option Page)) (slot last : ℕ) (list : PageList) → HasPages pages slot 0 last → OtherPagesStay slot first pages → list.pages ≡ 0 → IsListTurn first pages slot list
+none_left first pages slot last list h stay many = record {
   stays = record {
     rows = 0;
     fits = omega arith;
     chain = subst (λ k. IsPageChain pages slot 0 k list.last) (sym many) tt;
-    counted = count ∙ ap (λ k. length (calls_to pages k list.last)) (sym many);
+    countable = subst (λ k. length (calls_to pages k list.last) < 2 ^ 64) (sym many) (omega arith);
     below = subst (AreBelow pages slot) (sym many) h.below;
     numbered = h.numbered;
   };
@@ -550,19 +556,12 @@ refilled_by pages at page rows calls read is = record {
   calls_are = is;
 }
 
-pub lt_true : (b : Bool) (x y : ℕ) → b ≡ nat_lt x y → b ≡ true → x < y
-lt_true b x y is holds = let test : nat_lt x y ≡ true = sym is ∙ holds in grind (arith, nat_tests, test)
-
-pub lt_false : (b : Bool) (x y : ℕ) → b ≡ nat_lt x y → b ≡ false → y ≤ x
-lt_false b x y is no_room = let test : nat_lt x y ≡ false = sym is ∙ no_room in grind (arith, nat_tests, test)
-
-pub pages_counted : (pages : List (Option Page)) (slot : ℕ) (list : PageList) → IsPageList pages slot list → IsPageChain pages slot PAGE list.pages list.last → list.count / PAGE ≡ list.pages
-pages_counted pages slot list h full =
+-- full pages can be counted, and one more
+pub pages_small : (pages : List (Option Page)) (slot : ℕ) (list : PageList) → IsPageList pages slot list → IsPageChain pages slot PAGE list.pages list.last → list.pages + 1 < 2 ^ 64
+pages_small pages slot list h full =
     let long = full_length pages slot list.pages list.last full in
-    let count = h.counted in
-    let parts = div-add-mod' list.count PAGE in
-    let rest : list.count % PAGE < PAGE = mod-lt list.count (omega arith) in
-    omega arith
+    let small = h.countable in
+    omega (arith, long, small)
 
 pub OnOk-map : {A E : Type 0} (r : Result A E) (P Q : Type 0) → (P → Q) → OnOk r P → OnOk r Q
 OnOk-map (Ok x) P Q f h = f h
@@ -642,11 +641,11 @@ found_calls pages lists v lent view same slot list read lt =
     ap (λ (a : AuditLists). trail_of slot a.trails) (sym view) ∙ trail_shown pages lists slot ∙ ap (calls_in pages) (found_listed lists lent slot list same read lt)
 
 -- the number of the page of a call
-pub page_of_call : (pages : List (Option Page)) (slot : ℕ) (list : PageList) (place : ℕ) → IsPageList pages slot list → place < list.count → (n : ℕ) × (list.pages ≡ suc n) × (place / PAGE ≤ n)
+pub page_of_call : (pages : List (Option Page)) (slot : ℕ) (list : PageList) (place : ℕ) → IsPageList pages slot list → place < length (calls_in pages list) → (n : ℕ) × (list.pages ≡ suc n) × (place / PAGE ≤ n)
 page_of_call pages slot list place h lt = by list.pages refl
   where
     by : (k : ℕ) → list.pages ≡ k → (n : ℕ) × (list.pages ≡ suc n) × (place / PAGE ≤ n)
-    by zero many = let none : list.count ≡ 0 = h.counted ∙ ap (λ k. length (calls_to pages k list.last)) many in absurd (omega arith)
+    by zero many = let none : length (calls_in pages list) ≡ 0 = ap (λ k. length (calls_to pages k list.last)) many in absurd (omega (arith, lt, none))
     by (suc n) many =
         let last = last_rows pages slot list n h many in
         let count = last.1 in

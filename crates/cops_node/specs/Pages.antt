@@ -1,5 +1,5 @@
 -- The pages of an audit: one table for all slots. Each page of a slot is linked to the one before it.
-use Rattle.std.specs.Prelude.{◌≡◌, ◌≢◌, ◌⊎◌, ℕ, zero, suc, ◌+◌, ◌-◌, ◌<◌, ◌≤◌, List, [], ◌++◌, length, min, slice_index_or, Option, Some, None, vec_len, vec_capacity}
+use Rattle.std.specs.Prelude.{◌≡◌, ◌≢◌, ◌⊎◌, ℕ, zero, suc, ◌+◌, ◌-◌, ◌^◌, ◌<◌, ◌≤◌, nat_lt, Bool, false, List, [], ◌++◌, length, min, slice_index_or, Option, Some, None, vec_len, vec_capacity}
 use Rattle.cops_model.specs.declared.calls.AuditEntry.{AuditEntry}
 use Rattle.cops_node.specs.declared.pages.Page.{Page}
 use Rattle.cops_node.specs.declared.pages.PageList.{PageList}
@@ -47,6 +47,11 @@ abbrev pub spare_to : List (Option Page) → ℕ → ℕ → ℕ
 spare_to pages zero at = 0
 spare_to pages (suc n) at = spare_in (page_at pages at)
 
+-- the last of this many pages is there, and isn't full
+abbrev pub has_room_to : List (Option Page) → ℕ → ℕ → Bool
+has_room_to pages zero at = false
+has_room_to pages (suc n) at = nat_lt (length (calls_of_page (page_at pages at))) PAGE
+
 -- the slot's page of this number is at the place
 abbrev pub IsPageOf : List (Option Page) → ℕ → ℕ → ℕ → Type 0
 IsPageOf pages slot number at = (page : Page) × (page_at pages at ≡ Some page) × (page.slot ≡ slot) × (page.number ≡ number)
@@ -73,7 +78,7 @@ abbrev pub AreBelow : List (Option Page) → ℕ → ℕ → Type 0
 AreBelow pages slot count = (at : ℕ) (page : Page) → page_at pages at ≡ Some page → page.slot ≡ slot → page.number < count
 
 abbrev pub no_pages : PageList
-no_pages = record { last = 0; pages = 0; count = 0 }
+no_pages = record { last = 0; pages = 0 }
 
 abbrev pub list_at : ℕ → List PageList → PageList
 list_at slot lists = slice_index_or lists slot no_pages
@@ -94,7 +99,7 @@ pub record IsPageList (pages : List (Option Page)) (slot : ℕ) (list : PageList
   pub rows : ℕ
   pub fits : rows ≤ PAGE
   pub chain : IsPageChain pages slot rows list.pages list.last
-  pub counted : list.count ≡ length (calls_in pages list)
+  pub countable : length (calls_in pages list) < 2 ^ 64
   pub below : AreBelow pages slot list.pages
   pub numbered : AreNumbered pages slot
 
@@ -139,4 +144,3 @@ pub record IsPageAdded (pages pages' : List (Option Page)) (slot : ℕ) (list li
   pub skip : IsEarlier pages slot list.pages page.skip
   pub empty : page.rows.items ≡ []
   pub pages_are : list'.pages ≡ list.pages + 1
-  pub count_is : list'.count ≡ list.count

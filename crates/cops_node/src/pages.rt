@@ -1,7 +1,7 @@
 //! The audit of a node: the calls of all slots, in pages of one table.
-ghost use Rattle.std.specs.Prelude.{◌≡◌, ℕ, suc, ◌+◌, ◌/◌, ◌^◌, ◌<◌, ◌≤◌, true, [], ◌∷◌, ◌++◌, length, nat_lt, slice_get, slice_set, Some, IsSome, IsTrue, IfOk, OnOk, OnErr};
+ghost use Rattle.std.specs.Prelude.{◌≡◌, ℕ, suc, ◌+◌, ◌^◌, ◌<◌, ◌≤◌, true, [], ◌∷◌, ◌++◌, length, slice_get, slice_set, Some, IsSome, IsTrue, IfOk, OnOk, OnErr};
 ghost use Rattle.std.specs.Option.{option_copied};
-ghost use Rattle.cops_node.specs.Pages.{PAGE as SIZE, AreNumbered, IsEarlier, IsListTurn, IsPageAdded, IsPageChain, IsPageList, IsPageOf, IsRefilled, number_of_page, page_at, calls_of_page, spare_in, spare_of};
+ghost use Rattle.cops_node.specs.Pages.{PAGE as SIZE, AreNumbered, IsEarlier, IsListTurn, IsPageAdded, IsPageChain, IsPageList, IsPageOf, IsRefilled, number_of_page, page_at, calls_in, calls_of_page, has_room_to, spare_in, spare_of};
 ghost use Rattle.cops_node.specs.Parts.{no_calls, noted, trail_of};
 
 use crate::AuditRow;
@@ -20,19 +20,18 @@ const HALF_PAGE: usize = 64;
 /// the page before it and of an earlier one, at which a search skips those between.
 #[derive(Debug, Drop)]
 pub struct Page {
+    pub rows: Vec<AuditRow>,
     pub slot: usize,
     pub number: u64,
     pub before: usize,
     pub skip: usize,
-    pub rows: Vec<AuditRow>,
 }
 
-/// The pages of a slot: the place of the last one, their number, and the number of calls in them.
+/// The pages of a slot: the place of the last one, and their number. Each but the last is full.
 #[derive(Clone, Copy, Debug)]
 pub struct PageList {
     pub last: usize,
     pub pages: u64,
-    pub count: u64,
 }
 
 /// The calls of all slots, with their replies: one table of pages. A page has calls of one slot; if
@@ -58,20 +57,35 @@ impl Model for AuditPages {
 
 // Returns a list without pages.
 fn no_list() -> PageList
-    ensures { result ≡ record { last = 0; pages = 0; count = 0 } }
+    ensures { result ≡ record { last = 0; pages = 0 } }
 {
-    PageList {
-        last: 0,
-        pages: 0,
-        count: 0,
-    }
+    PageList { last: 0, pages: 0 }
 }
 
-// Returns `true` if the last page of the list is not full.
-fn has_room(list: &PageList) -> bool
-    ensures { result ≡ nat_lt (list.now.count / SIZE) list.now.pages }
+// Returns `true` if the list has a last page that is not full.
+#[inline(always)]
+fn has_room(pages: &Slab<Page>, list: &PageList) -> bool
+    requires { (slot : ℕ) × IsPageList pages.now.slots slot list.now }
+    ensures { result ≡ has_room_to pages.now.slots list.now.pages list.now.last }
 {
-    list.count / (PAGE as u64) < list.pages
+    if list.pages == 0 {
+        return false;
+    }
+    let page = &pages[list.last];
+    page.rows.len() < PAGE
+}
+
+// Returns the number of calls in the pages of the list.
+#[inline(always)]
+fn count_of(pages: &Slab<Page>, list: &PageList) -> u64
+    requires { (slot : ℕ) × IsPageList pages.now.slots slot list.now }
+    ensures { result ≡ length (calls_in pages.now.slots list.now) }
+{
+    if list.pages == 0 {
+        return 0;
+    }
+    let page = &pages[list.last];
+    (list.pages - 1) * (PAGE as u64) + page.rows.len() as u64
 }
 
 // Returns the number of the page at a place.
@@ -132,13 +146,6 @@ fn skip_behind(pages: &Slab<Page>, list: &PageList) -> usize
     }
 }
 
-// Returns the number of pages once there is one behind full ones with this many calls.
-fn pages_after(count: u64) -> u64
-    ensures { result ≡ count / SIZE + 1 }
-{
-    count / (PAGE as u64) + 1
-}
-
 // Makes a new page, without calls and with room for one at least, the last of the list.
 fn add_page(
     alloc: Global,
@@ -166,8 +173,7 @@ fn add_page(
     });
     *list = PageList {
         last: at,
-        pages: pages_after(old.count),
-        count: old.count,
+        pages: old.pages + 1,
     };
     Ok(())
 }
@@ -238,7 +244,6 @@ fn free(pages: &mut Slab<Page>, list: &mut PageList)
         list.last = page.before;
     }
     list.pages = 0;
-    list.count = 0;
 }
 
 impl AuditPages {
@@ -276,7 +281,7 @@ impl AuditPages {
         ensures { result ≡ length (trail_of slot self.now.trails) }
     {
         match self.lists.get(slot) {
-            Some(list) => list.count,
+            Some(list) => count_of(&self.pages, list),
             None => 0,
         }
     }
@@ -289,7 +294,7 @@ impl AuditPages {
             Some(list) => *list,
             None => return None,
         };
-        if place >= list.count {
+        if place >= count_of(&self.pages, &list) {
             return None;
         }
         let at = find(&self.pages, list.last, place / (PAGE as u64));
@@ -306,7 +311,7 @@ impl AuditPages {
             Some(list) => *list,
             None => return None,
         };
-        if place >= list.count {
+        if place >= count_of(&self.pages, &list) {
             return None;
         }
         let number = place / (PAGE as u64);
@@ -323,7 +328,7 @@ impl AuditPages {
         ensures trails { self.new.trails ≡ self.old.trails }
     {
         let list = &mut self.lists[slot];
-        if has_room(list) {
+        if has_room(&self.pages, list) {
             widen(&mut self.pages, list.last)
         } else {
             add_page(self.alloc, &mut self.pages, list, slot)?;
@@ -340,7 +345,6 @@ impl AuditPages {
     {
         let list = &mut self.lists[slot];
         append(&mut self.pages, list.last, row);
-        list.count += 1;
     }
 
     /// Drops all calls of a slot, and gives its pages back. Allocates nothing.

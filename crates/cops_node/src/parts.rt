@@ -25,9 +25,9 @@ pub struct Counters {
 /// A node's state of one slot: its terms, its `now` and its counters. Its calls are in the audit.
 #[derive(Debug, Drop)]
 pub struct Part {
-    pub terms: Terms,
     pub moment: u64,
     pub counters: Counters,
+    pub terms: Terms,
 }
 
 /// The slot and the timestamp of a call.

@@ -1,9 +1,9 @@
-use Rattle.std.proofs.Common.{◌+◌, ◌∙◌, ap, refl, subst, sym, List}
+use Rattle.std.proofs.Common.{◌∙◌, ap, arith, refl, subst, sym, List}
 use Rattle.std.specs.Prelude.{Option}
 use Rattle.slab.specs.Slab.{Slab}
 use Rattle.cops_node.specs.declared.pages.Page.{Page}
 use Rattle.cops_node.specs.Pages.{AreNumbered, IsEarlier, IsPageChain, PAGE, page_at}
-use Rattle.cops_node.proofs.PageLemmas.{pages_counted}
+use Rattle.cops_node.proofs.PageLemmas.{pages_small}
 use Rattle.cops_node.proofs.pages.add_page.Goals as goal
 
 pub skip_behind-skip-requires : goal.skip_behind-skip-requires
@@ -28,6 +28,8 @@ returns-clause-ok c =
       skip = subst (λ (ps : List (Option Page)). IsEarlier ps c.args.slot c.args.list.now.pages c.skip_behind-skip.result) same
           (c.skip_behind-skip.ensures c.args.slot PAGE (subst (λ (ps : List (Option Page)). IsPageChain ps c.args.slot PAGE c.args.list.now.pages c.args.list.now.last) (sym same) c.requires.full));
       empty = c.reserve.ensures.items ∙ c.new-rows.ensures.items;
-      pages_are = c.pages_after.ensures ∙ ap (λ k. k + 1) (pages_counted c.args.pages.now.slots c.args.slot c.args.list.now c.requires.list c.requires.full);
-      count_is = refl;
+      pages_are = refl;
     }
+
+pub overflow_add-list : goal.overflow_add-list
+overflow_add-list c = let small = pages_small c.args.pages.now.slots c.args.slot c.args.list.now c.requires.list c.requires.full in omega (arith, small)

@@ -31,5 +31,5 @@ returns-clause-turn c = λ slot h.
     let sum = left.1 in
     let test = c.loop-page-test.false in
     let none : left.0 ≡ 0 = omega arith in
-    none_left c.args.pages.now.slots c.loop-page.pages.slots slot c.loop-page.list.last (record { last = c.loop-page.list.last; pages = 0; count = 0 })
-    (subst (λ k. HasPages c.loop-page.pages.slots slot k c.loop-page.list.last) none left.2) left.3 refl refl
+    none_left c.args.pages.now.slots c.loop-page.pages.slots slot c.loop-page.list.last (record { last = c.loop-page.list.last; pages = 0 })
+    (subst (λ k. HasPages c.loop-page.pages.slots slot k c.loop-page.list.last) none left.2) left.3 refl

@@ -1,19 +1,20 @@
-use Rattle.std.proofs.Common.{◌≡◌, ◌+◌, ◌<◌, ◌∙◌, ◌++◌, ◌∷◌, [], ap, refl, set, subst, sym}
+use Rattle.std.proofs.Common.{◌≡◌, ◌+◌, ◌^◌, ◌<◌, ◌∙◌, length, ◌++◌, ◌∷◌, [], ap, set, subst, sym}
 use Rattle.cops_node.specs.declared.pages.PageList.{PageList}
 use Rattle.cops_node.specs.Pages.{IsListTurn, calls_in}
 use Rattle.cops_node.proofs.PageLemmas.{list_noted, own_calls, own_list, own_spare, spare_small, spare_some, turned_lists, turned_trails}
 use Rattle.cops_node.proofs.pages.AuditPages.push.Goals as goal
 
-abbrev next : goal.After-self-1 → PageList
-next c = record { last = c.index_mut-list.result.now.last; pages = c.index_mut-list.result.now.pages; count = c.index_mut-list.result.now.count + 1 }
+abbrev next : goal.After-append → PageList
+next c = c.index_mut-list.result.now
 
-noted_in : (c : goal.After-self-1) → IsListTurn c.self.inside.pages.slots c.append.new.pages.slots c.args.slot (next c) × (calls_in c.append.new.pages.slots (next c) ≡ calls_in c.self.inside.pages.slots c.index_mut-list.result.now ++ c.args.row ∷ [])
+noted_in : (c : goal.After-append) → IsListTurn c.self.inside.pages.slots c.append.new.pages.slots c.args.slot (next c) × (calls_in c.append.new.pages.slots (next c) ≡ calls_in c.self.inside.pages.slots c.index_mut-list.result.now ++ c.args.row ∷ [])
 noted_in c =
     let room = spare_some c.self.inside.pages.slots c.index_mut-list.result.now.pages c.index_mut-list.result.now.last
     (subst (λ n. 0 < n) (own_spare c.self.inside.pages.slots c.self.inside.lists.items c.args.self.now c.self.invariant c.self.view_is c.args.slot c.requires.slot c.index_mut-list.result.now c.index_mut-list.ensures.value) c.requires.room) in
-    list_noted c.self.inside.pages.slots c.append.new.pages.slots c.args.slot c.index_mut-list.result.now (next c) c.args.row
+    list_noted c.self.inside.pages.slots c.append.new.pages.slots c.args.slot c.index_mut-list.result.now c.args.row
     (own_list c.self.inside.pages.slots c.self.inside.lists.items c.args.self.now c.self.invariant c.self.view_is c.args.slot c.requires.slot c.index_mut-list.result.now c.index_mut-list.ensures.value)
-    room.0 (spare_small _ room.1) c.append.ensures refl refl refl
+    room.0 (spare_small _ room.1) c.append.ensures
+    (subst (λ es. length es + 1 < 2 ^ 64) (own_calls c.self.inside.pages.slots c.self.inside.lists.items c.args.self.now c.self.invariant c.self.view_is c.args.slot c.requires.slot c.index_mut-list.result.now c.index_mut-list.ensures.value) c.requires.countable)
 
 pub invariant_of-self : goal.invariant_of-self
 invariant_of-self c =
